@@ -29,6 +29,7 @@ impl<S: NodeSpace> BTree<S> {
         requires rising { IsNonDecreasing chosen.now }
         ensures ok { IfOk result (λ found. IfSome (S.pages self.old.space) (λ map.
             FindsNode chosen.now map found)) }
+        ensures intact { OnOk result (IsTrue self.old.intact) }
         ensures same { Reads S.name S.frame S.rest S.pages self.old.space self.new.space }
         ensures stays { (self.new.root ≡ self.old.root) × (self.new.intact ≡ self.old.intact) }
         ensures cause { HasStoreCause

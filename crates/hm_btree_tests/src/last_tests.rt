@@ -142,24 +142,29 @@ fn search(
 
 #[test]
 fn a_search_whose_read_is_refused_says_so_or_has_read_enough(rt: HostRuntime) -> Result<(), Fail> {
-    let (table, root) = evens(rt.alloc(), 3_500)?.into_parts();
-    let mut failing = Failing { table, left: 0 };
-    for key in 0..7_004u64 {
-        let at = element(key, 1).base;
-        let mut failed: u64 = 0;
-        for left in 0..6u64 {
-            failing.left = left;
-            match search(&mut failing, root, &at)? {
-                Ok(found) => assert_eq!(rt; found, wanted(key, 3_500), "{key}"),
-                Err(fault) => {
-                    assert_eq!(rt; fault, Fault::NoMemory);
-                    assert_eq!(rt; failed, left, "{key}");
-                    failed = failed.saturating_add(1);
+    // One node a level, and at a left boundary also the leaf before it, or the inner node and the leaf.
+    for (keys, least, most) in [(2u64, 1u64, 1u64), (40, 1, 1), (700, 2, 3), (3_500, 3, 5)] {
+        let (table, root) = evens(rt.alloc(), keys)?.into_parts();
+        let mut failing = Failing { table, left: 0 };
+        for key in 0..keys.saturating_mul(2).saturating_add(4) {
+            let at = element(key, 1).base;
+            let mut failed: u64 = 0;
+            for left in 0..6u64 {
+                failing.left = left;
+                match search(&mut failing, root, &at)? {
+                    Ok(found) => assert_eq!(rt; found, wanted(key, keys), "{key} of {keys}"),
+                    Err(fault) => {
+                        assert_eq!(rt; fault, Fault::NoMemory);
+                        assert_eq!(rt; failed, left, "{key} of {keys}");
+                        failed = failed.saturating_add(1);
+                    }
                 }
             }
+            assert!(rt;
+                (least..=most).contains(&failed),
+                "{key} of {keys}: {failed}"
+            );
         }
-        // One a level, and at a left boundary also the leaf before it, or the inner node and the leaf.
-        assert!(rt; (3..=5).contains(&failed), "{key}: {failed}");
     }
     Ok(())
 }

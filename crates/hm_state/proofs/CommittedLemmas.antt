@@ -23,7 +23,7 @@ use Rattle.hm_freemap.proofs.ListLemmas.{all_left, all_right}
 use Rattle.hm_image.proofs.PartLemmas.{part_same}
 use Rattle.hm_stored.specs.Basis.{refers, states_of}
 use Rattle.hm_stored.specs.Fixed.{does_name, fixed_with, is_fixed, refs_with}
-use Rattle.hm_stored.specs.Heap.{Frame, Heap, basis_with, content_of, content_with, frame_of, refs_begun}
+use Rattle.hm_stored.specs.Heap.{Frame, Heap, basis_with, begun_content, content_with, frame_of, refs_begun}
 use Rattle.hm_stored.proofs.BasisLemmas.{bases_same}
 
 -- where the fixed bytes are the same, each of them is, and is settled where it was
@@ -73,7 +73,7 @@ page_low bigblocks block few = omega (arith, few)
 -- Two spaces have one frame, and the disks of both tell.
 module _ (old new : Heap) (same : frame_of new ≡ frame_of old) where
   abbrev pub known : Bool
-  known = is_some (content_of old)
+  known = is_some (begun_content old)
 
   -- what all three trees referred to as the call began
   abbrev pub refs : List Reference
@@ -97,7 +97,7 @@ module _ (old new : Heap) (same : frame_of new ≡ frame_of old) where
 
   fixed_same : fixed_with old.bigblocks known refs new.disk ≡ fixed_with old.bigblocks known refs old.disk
   fixed_same =
-      sym (by_parts new.bigblocks (is_some (content_of new)) (refs_begun new) bigblocks_same (ap (λ (f : Frame). is_some f.content) same) refs_same)
+      sym (by_parts new.bigblocks (is_some (begun_content new)) (refs_begun new) bigblocks_same (ap (λ (f : Frame). is_some f.content) same) refs_same)
       ∙ ap (λ (f : Frame). f.fixed) same where
         by_parts : (n : ℕ) (k : Bool) (r : List Reference) → n ≡ old.bigblocks → k ≡ known → r ≡ refs
             → fixed_with n k r new.disk ≡ fixed_with old.bigblocks known refs new.disk

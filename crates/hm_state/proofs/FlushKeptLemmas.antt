@@ -30,7 +30,7 @@ use Rattle.hm_image.proofs.PartLemmas.{part_same}
 use Rattle.hm_model.specs.Volume.{Volume}
 use Rattle.hm_stored.specs.Basis.{nodes, refers}
 use Rattle.hm_stored.specs.Fixed.{is_fixed}
-use Rattle.hm_stored.specs.Heap.{Frame, Heap, content_of, frame_of}
+use Rattle.hm_stored.specs.Heap.{Frame, Heap, begun_content, frame_of}
 use Rattle.hm_state.specs.Flushing.{ArePayloadsSettled, HoldsFlush, HoldsOutside, IsSettledAt, IsWholeState}
 use Rattle.hm_state.proofs.CommittedLemmas.{byte_same, committed_among, frozen_among, known, low_fixed, named_fixed, page_low, refs, settled_same, size_same}
 use Rattle.hm_state.proofs.CourseLemmas.{logged_flies, same_state}
@@ -221,7 +221,7 @@ module _ (f : Flush) (old new : Heap) (t : Told) (committed frozen : Volume) (fl
 -- ---- calls
 
 module _ (f : Flush) (old new : Heap) (s t : Told) (committed frozen : Volume) (same : frame_of new ≡ frame_of old) (was : old.disk ≡ Some s)
-    (is : new.disk ≡ Some t) (told : IsSome (content_of old)) where
+    (is : new.disk ≡ Some t) (told : IsSome (begun_content old)) where
   -- a byte that no call touches
   abbrev IsKept : ℕ → Type 0
   IsKept byte = is_fixed old.bigblocks (known old new same) (refs old new same) byte ≡ true

@@ -28,7 +28,7 @@ use Rattle.hm_flush.specs.Stages.{range_of}
 use Rattle.hm_model.specs.Volume.{Volume}
 use Rattle.hm_stored.specs.Basis.{states_of}
 use Rattle.hm_stored.specs.Fixed.{is_fixed, refs_with}
-use Rattle.hm_stored.specs.Heap.{Heap, basis_with, content_of, frame_of}
+use Rattle.hm_stored.specs.Heap.{Heap, basis_with, begun_content, frame_of}
 use Rattle.hm_stored.specs.Standing.{basis_now}
 use Rattle.hm_stored.specs.Turn.{IsOpened}
 use Rattle.hm_state.specs.Live.{IsInPlace, IsLiveByte, KeepsLiveBut, NoByte}
@@ -61,7 +61,7 @@ module _ (h old new : Heap) (root last : ℕ) (opens : IsOpened root last h old)
         roots = roots i;
       })))
 
-  pub calls_keep_live : (s t : Told) → old.disk ≡ Some s → new.disk ≡ Some t → IsSome (content_of old) → KeepsLiveBut NoByte h root s t
+  pub calls_keep_live : (s t : Told) → old.disk ≡ Some s → new.disk ≡ Some t → IsSome (begun_content old) → KeepsLiveBut NoByte h root s t
   calls_keep_live s t was is told byte (r, there, from, to) none = record {
     value = byte_same old new same s t was is byte fixed;
     settled = λ out. is_outside-is t.unsettled byte (settled_same old new same s t was is byte fixed ∙ is_outside-from s.unsettled byte out);

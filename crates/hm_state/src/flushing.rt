@@ -21,7 +21,7 @@ ghost use Rattle.hm_load.specs.Held.{HoldsImage};
 ghost use Rattle.hm_load.specs.Loaded.{IsLoaded};
 ghost use Rattle.hm_stored.specs.declared.books.Books.{Books};
 ghost use Rattle.hm_stored.specs.Flushed.{ArePages, FlushesSpace};
-ghost use Rattle.hm_stored.specs.Heap.{Heap, content_of, frame_of, free_of, heap_of, room_of};
+ghost use Rattle.hm_stored.specs.Heap.{Heap, begun_content, frame_of, free_of, heap_of, room_of};
 ghost use Rattle.hm_stored.specs.Mounted.{IsBooksOf};
 ghost use Rattle.hm_state.specs.Flushing.{HoldsFlush, RecoversToVolume, committed_after, frozen_after};
 ghost use Rattle.hm_state.specs.Volume.{HoldsVolume};
@@ -46,11 +46,11 @@ pub fn a_mounted_volume_is_committed()
 pub fn calls_keep_what_a_flush_holds()
     ensures told { (f : Flush) (old new : Heap) (s t : Told) (committed frozen : Volume) →
         frame_of new ≡ frame_of old → old.disk ≡ Some s → new.disk ≡ Some t →
-        IsSome (content_of old) → HoldsFlush f old s committed frozen →
+        IsSome (begun_content old) → HoldsFlush f old s committed frozen →
         HoldsFlush f new t committed frozen }
     ensures as_read { (f : Flush) (old new : Heap) (s t : Told) (committed frozen : Volume) →
         frame_of new ≡ frame_of old → old.disk ≡ Some s → new.disk ≡ Some t →
-        IsSome (content_of old) → HoldsFlush f old (as_read s) committed frozen →
+        IsSome (begun_content old) → HoldsFlush f old (as_read s) committed frozen →
         HoldsFlush f new (as_read t) committed frozen }
     ensures same { (f : Flush) (old new : Heap) (t : Told) (committed frozen : Volume) →
         IsSameFlush old.pages new.pages → new.bigblocks ≡ old.bigblocks →

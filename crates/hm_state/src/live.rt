@@ -10,7 +10,7 @@ ghost use Rattle.hm_flush.specs.Ends.{StageDoes};
 ghost use Rattle.hm_flush.specs.Group.{group_of};
 ghost use Rattle.hm_model.specs.Volume.{Volume};
 ghost use Rattle.hm_pages.specs.Sound.{IsSound};
-ghost use Rattle.hm_stored.specs.Heap.{Heap, content_of, frame_of};
+ghost use Rattle.hm_stored.specs.Heap.{Heap, begun_content, frame_of};
 ghost use Rattle.hm_stored.specs.Turn.{IsOpened};
 ghost use Rattle.hm_state.specs.Flushing.{HoldsFlush};
 ghost use Rattle.hm_state.specs.Live.{AreLiveSettled, IsInPlace, KeepsLiveBut, NoByte};
@@ -22,7 +22,7 @@ ghost use Rattle.hm_state.specs.Volume.{HoldsVolume};
 pub fn calls_keep_what_is_live()
     ensures { (h old new : Heap) (root last : ℕ) (s t : Told) → IsOpened root last h old →
         frame_of new ≡ frame_of old → old.disk ≡ Some s → new.disk ≡ Some t →
-        IsSome (content_of old) → KeepsLiveBut NoByte h root s t }
+        IsSome (begun_content old) → KeepsLiveBut NoByte h root s t }
 {}
 
 /// Where a space holds a volume, a stage of a flush over its pages writes over nothing of that kind, but

@@ -14,7 +14,7 @@ use Rattle.hm_pages.specs.Calls.{IsChanged}
 use Rattle.hm_pages.specs.Sets.{ChangeSet, HasChanged}
 use Rattle.hm_pages.specs.Store.{Store, Frame as PagesFrame, frame_of as pages_frame}
 use Rattle.hm_stored.specs.Basis.{Basis, nodes}
-use Rattle.hm_stored.specs.Heap.{Heap, basis_with, bytes_of, content_of, content_with, does_tell, elements_with, extents_in}
+use Rattle.hm_stored.specs.Heap.{Heap, basis_with, bytes_of, begun_content, content_with, does_tell, elements_with, extents_in}
 use Rattle.hm_stored.specs.Heap.{fixed_of, frame_of, pages_of, places_in, refs_begun}
 use Rattle.hm_stored.specs.Fixed.{fixed_with, refs_with}
 use Rattle.hm_stored.specs.Held.{Held, HeldBy}
@@ -54,17 +54,17 @@ module _ (h h' : Heap) (same : SameBasis h h') where
     by_begin None = refl
     by_begin (Some begin) = ap Some (basis_same begin)
 
-  pub content_same : h'.disk ≡ h.disk → content_of h' ≡ content_of h
+  pub content_same : h'.disk ≡ h.disk → begun_content h' ≡ begun_content h
   content_same disk =
       ap (λ (n : ℕ). content_with n (option_map (basis_with h') h'.pages.begin) h'.disk) same.last
       ∙ (ap (λ (o : Option Basis). content_with h.last o h'.disk) bases_same ∙ ap (content_with h.last (option_map (basis_with h) h.pages.begin)) disk)
 
   -- the same bytes are fixed, where as much is told
-  pub fixed_told : content_of h' ≡ content_of h
-      → fixed_of h' ≡ fixed_with h.bigblocks (is_some (content_of h)) (refs_begun h) h'.disk
-  fixed_told content = by_parts h'.bigblocks (content_of h') (option_map (basis_with h') h'.pages.begin) same.bigblocks content bases_same where
-    by_parts : (n : ℕ) (es : Option (List FullElement)) (o : Option Basis) → n ≡ h.bigblocks → es ≡ content_of h → o ≡ option_map (basis_with h) h.pages.begin
-        → fixed_with n (is_some es) (refs_with o) h'.disk ≡ fixed_with h.bigblocks (is_some (content_of h)) (refs_begun h) h'.disk
+  pub fixed_told : begun_content h' ≡ begun_content h
+      → fixed_of h' ≡ fixed_with h.bigblocks (is_some (begun_content h)) (refs_begun h) h'.disk
+  fixed_told content = by_parts h'.bigblocks (begun_content h') (option_map (basis_with h') h'.pages.begin) same.bigblocks content bases_same where
+    by_parts : (n : ℕ) (es : Option (List FullElement)) (o : Option Basis) → n ≡ h.bigblocks → es ≡ begun_content h → o ≡ option_map (basis_with h) h.pages.begin
+        → fixed_with n (is_some es) (refs_with o) h'.disk ≡ fixed_with h.bigblocks (is_some (begun_content h)) (refs_begun h) h'.disk
     by_parts n es o first second third = rw (first, second, third) refl
 
   pub places_same : h'.log ≡ h.log → places_in h' ≡ places_in h
@@ -89,8 +89,8 @@ module _ (h h' : Heap) (same : SameBasis h h') where
             (next.0, subst (λ (b : Basis). HeldBy h' b next.0) (sym (basis_same begin)) next.1)
 
 -- whether a space tells depends on its content, and on whether it is whole
-pub tell_same : (h h' : Heap) → content_of h' ≡ content_of h → h'.whole ≡ h.whole → does_tell h' ≡ does_tell h
-tell_same h h' content whole = ap (λ (o : Option (List FullElement)). h'.whole && is_some o) content ∙ ap (λ (t : Bool). t && is_some (content_of h)) whole
+pub tell_same : (h h' : Heap) → begun_content h' ≡ begun_content h → h'.whole ≡ h.whole → does_tell h' ≡ does_tell h
+tell_same h h' content whole = ap (λ (o : Option (List FullElement)). h'.whole && is_some o) content ∙ ap (λ (t : Bool). t && is_some (begun_content h)) whole
 
 -- what both tell of their nodes
 pub both_nodes : (h h' : Heap) (R : PageMap → PageMap → Type 0) → does_tell h' ≡ does_tell h → R (nodes h.pages.current) (nodes h'.pages.current)
@@ -110,13 +110,13 @@ extents_same h h' tell bytes places =
 
 -- the frame is the same, where the disk tells as much, at the same moment, and the same fixed bytes
 pub frame_told : (h h' : Heap) → SameBasis h h' → option_map (λ (t : Told). length t.bytes) h'.disk ≡ option_map (λ (t : Told). length t.bytes) h.disk
-    → moment_of h'.disk ≡ moment_of h.disk → content_of h' ≡ content_of h → fixed_of h' ≡ fixed_of h → frame_of h' ≡ frame_of h
+    → moment_of h'.disk ≡ moment_of h.disk → begun_content h' ≡ begun_content h → fixed_of h' ≡ fixed_of h → frame_of h' ≡ frame_of h
 frame_told h h' same size moment content fixed =
     by_parts (pages_frame h'.pages) h'.bigblocks h'.begun h'.roots h'.last (option_map (λ (t : Told). length t.bytes) h'.disk) (moment_of h'.disk)
-    (content_of h') (fixed_of h') same.pages same.bigblocks same.begun same.roots same.last size moment content fixed where
+    (begun_content h') (fixed_of h') same.pages same.bigblocks same.begun same.roots same.last size moment content fixed where
       by_parts : (p : PagesFrame) (n : ℕ) (a : List ℕ) (r : Roots) (l : ℕ) (s m : Option ℕ) (c : Option (List FullElement)) (x : Option (ℕ → Option (ℕ × Bool)))
           → p ≡ pages_frame h.pages → n ≡ h.bigblocks → a ≡ h.begun → r ≡ h.roots → l ≡ h.last → s ≡ option_map (λ (t : Told). length t.bytes) h.disk
-          → m ≡ moment_of h.disk → c ≡ content_of h → x ≡ fixed_of h
+          → m ≡ moment_of h.disk → c ≡ begun_content h → x ≡ fixed_of h
           → record { pages = p; bigblocks = n; begun = a; roots = r; last = l; size = s; moment = m; content = c; fixed = x } ≡ frame_of h
       by_parts p n a r l s m c x first second third fourth fifth sixth seventh eighth ninth =
           rw (first, second, third, fourth, fifth, sixth, seventh, eighth, ninth) refl
@@ -126,7 +126,7 @@ pub frame_same : (h h' : Heap) → SameBasis h h' → h'.disk ≡ h.disk → fra
 frame_same h h' same disk =
     frame_told h h' same (ap (option_map (λ (t : Told). length t.bytes)) disk) (ap moment_of disk) (content_same h h' same disk)
     (fixed_told h h' same (content_same h h' same disk)
-    ∙ ap (fixed_with h.bigblocks (is_some (content_of h)) (refs_begun h)) disk)
+    ∙ ap (fixed_with h.bigblocks (is_some (begun_content h)) (refs_begun h)) disk)
 
 -- a change of a store of pages leaves its frame
 pub changed_frame : (at : ℕ) (page : Option (List ℕ)) (old new : Store) → IsChanged at page old new → pages_frame new ≡ pages_frame old

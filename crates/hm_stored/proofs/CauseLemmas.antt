@@ -23,13 +23,13 @@ use Rattle.hm_freemap.specs.Stand.{append_of, home_of}
 use Rattle.hm_freemap.proofs.ExtentLemmas.{held_extent, placed_extent}
 use Rattle.hm_freemap.proofs.GoodLemmas.{admission_undamaged, good_block}
 use Rattle.hm_stored.specs.Basis.{Basis, nodes, states_of}
-use Rattle.hm_stored.specs.Heap.{Heap, basis_with, bytes_of, content_of, content_with, does_tell, extents_in, maps_of, pages_of, places_in}
+use Rattle.hm_stored.specs.Heap.{Heap, basis_with, bytes_of, begun_content, content_with, does_tell, extents_in, maps_of, pages_of, places_in}
 use Rattle.hm_stored.specs.Log.{filled}
 use Rattle.hm_stored.specs.Held.{Held, HeldBy, IsKept, with_refs}
 
 -- what a space tells, where it is whole and has a content
-pub tells_parts : (h : Heap) → IsTrue (does_tell h) → (h.whole ≡ true) × (is_some (content_of h) ≡ true)
-tells_parts h told = both h.whole (is_some (content_of h)) told where
+pub tells_parts : (h : Heap) → IsTrue (does_tell h) → (h.whole ≡ true) × (is_some (begun_content h) ≡ true)
+tells_parts h told = both h.whole (is_some (begun_content h)) told where
   both : (s t : Bool) → (s && t) ≡ true → (s ≡ true) × (t ≡ true)
   both true true is = (refl, refl)
   both true false is = absurd (true≢false (sym is))
@@ -41,7 +41,7 @@ pub on_begin : (h : Heap) (P : Type 0) → IsTrue (does_tell h) → Held h
 on_begin h P told held use_them = by_begin h.pages.begin refl (held told) where
   by_begin : (o : Option PageMap) → h.pages.begin ≡ o → IfSome o (λ begin. (refs : List Reference) × HeldBy h (basis_with h begin) refs) → P
   by_begin None none is =
-      let empty : is_some (content_of h) ≡ false =
+      let empty : is_some (begun_content h) ≡ false =
       ap (λ (o : Option PageMap). is_some (content_with h.last (option_map (basis_with h) o) h.disk)) none in
       absurd (true≢false (sym ((tells_parts h told).1) ∙ empty))
   by_begin (Some begin) there is = use_them begin is.0 is.1

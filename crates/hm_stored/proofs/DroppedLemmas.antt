@@ -6,7 +6,7 @@ use Rattle.hm_disk.specs.Crash.{Told}
 use Rattle.hm_fields.specs.Pages.{PageMap}
 use Rattle.hm_stored.specs.Basis.{Basis, IsFirm, fulls_in}
 use Rattle.hm_stored.specs.Content.{DropsContent}
-use Rattle.hm_stored.specs.Heap.{Heap, basis_with, content_of, content_with}
+use Rattle.hm_stored.specs.Heap.{Heap, basis_with, begun_content, content_with}
 use Rattle.hm_stored.specs.Standing.{Holds, HoldsBy, basis_now}
 use Rattle.hm_stored.specs.Turn.{IsDropped}
 use Rattle.hm_stored.specs.declared.roots.Roots.{Roots}
@@ -38,8 +38,8 @@ module _ (h h' : Heap) (drops : IsDropped h h') where
       record { firm = subst IsFirm (sym same) firm.0; elements = ap (λ (b : Basis). fulls_in b t.bytes) same ∙ firm.1 }
 
   pub drops_content : DropsContent h h'
-  drops_content = by_told (content_of h) refl where
-    by_told : (c : Option (List FullElement)) → content_of h ≡ c → IfSome c (λ es. Holds h' h.roots.current es)
+  drops_content = by_told (begun_content h) refl where
+    by_told : (c : Option (List FullElement)) → begun_content h ≡ c → IfSome c (λ es. Holds h' h.roots.current es)
     by_told None told = tt
     by_told (Some es) told =
         subst (λ (d : Option Told). IsSomeAnd d (λ t. HoldsBy h' h.roots.current t.bytes es)) (sym (ap (λ (x : Heap). x.disk) drops.rest))

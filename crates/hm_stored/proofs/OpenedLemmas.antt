@@ -10,7 +10,7 @@ use Rattle.hm_image.proofs.ExtentsOfLemmas.{placed_balanced, placed_payloads}
 use Rattle.hm_key.specs.Balance.{IsBalanced, full_elements}
 use Rattle.hm_stored.specs.Basis.{Basis, IsFirm, elements_in, fulls_in}
 use Rattle.hm_stored.specs.Content.{HaveContent, OpensContent, TellsContent}
-use Rattle.hm_stored.specs.Heap.{Heap, basis_with, bytes_of, content_by, content_of, content_with, does_tell, places_in}
+use Rattle.hm_stored.specs.Heap.{Heap, basis_with, bytes_of, content_by, begun_content, content_with, does_tell, places_in}
 use Rattle.hm_stored.specs.Held.{IsKept}
 use Rattle.hm_stored.specs.Known.{is_known}
 use Rattle.hm_stored.specs.Log.{filled}
@@ -30,7 +30,7 @@ module _ (h : Heap) (t : Told) (es : List FullElement) (whole : h.whole ≡ true
   abbrev b : Basis
   b = basis_with h h.pages.current
 
-  content : content_of h ≡ Some es
+  content : begun_content h ≡ Some es
   content =
       ap (λ (o : Option PageMap). content_with h.last (option_map (basis_with h) o) h.disk) begin
       ∙ (ap (content_with h.last (Some b)) disk ∙ content_found h.last b t.bytes es firm known elements)
@@ -100,7 +100,7 @@ module _ (h h' : Heap) (root last : ℕ) (closed : IsClosed h) (kept : ∥ IsKep
     basis_at : option_map (basis_with h') h'.pages.begin ≡ Some (basis_now h root)
     basis_at = ap (option_map (basis_with h')) (opens.pages.begin ∙ ap Some (sym opens.pages.current)) ∙ ap Some basis_is
 
-    content_is : content_of h' ≡ content_with last (Some (basis_now h root)) h.disk
+    content_is : begun_content h' ≡ content_with last (Some (basis_now h root)) h.disk
     content_is =
         ap (λ (o : Option Basis). content_with h'.last o h'.disk) basis_at
         ∙ (ap (content_with h'.last (Some (basis_now h root))) disk_is

@@ -24,7 +24,7 @@ use Rattle.hm_freemap.proofs.ListLemmas.{all_right}
 use Rattle.hm_stored.specs.Basis.{Basis, fulls_in, states_of}
 use Rattle.hm_stored.specs.Calls.{Alters, ChangesExtents}
 use Rattle.hm_stored.specs.DecideFirm.{is_firm}
-use Rattle.hm_stored.specs.Heap.{Heap, basis_with, bytes_of, content_by, content_of, content_with, does_hold, does_tell, fixed_of, frame_of, free_of}
+use Rattle.hm_stored.specs.Heap.{Heap, basis_with, bytes_of, content_by, begun_content, content_with, does_hold, does_tell, fixed_of, frame_of, free_of}
 use Rattle.hm_stored.specs.Fixed.{refs_with}
 use Rattle.hm_stored.specs.Heap.{is_firm_with, maps_of, places_in, refs_begun, room_of}
 use Rattle.hm_stored.specs.Held.{AreNodes, HeldBy, IsKept, IsSafe, Safe, with_refs}
@@ -108,7 +108,7 @@ module _ (h h' : Heap) (zone at len : ℕ) (few : h.bigblocks ≤ MOST_BIGBLOCKS
   apart b safe = all_apart h.bigblocks (append_of h.append zone) h.pages.current at len (states_of b).current some takes.begin fits safe.placed safe.below
 
   -- so the content is the same
-  same_content : Safe h → content_of h' ≡ content_of h
+  same_content : Safe h → begun_content h' ≡ begun_content h
   same_content safe =
       ap (λ (n : ℕ). content_with n (option_map (basis_with h') h'.pages.begin) h'.disk) basis.last
       ∙ (ap (λ (o : Option Basis). content_with h.last o h'.disk) (bases_same h h' basis)
@@ -136,11 +136,11 @@ module _ (h h' : Heap) (zone at len : ℕ) (few : h.bigblocks ≤ MOST_BIGBLOCKS
                   ∙ (ap (λ (d : Option Told). is_firm_with (Some (basis_with h begin)) d) told ∙ firm))
 
   -- and the frame is
-  pub content_put : content_of h' ≡ content_of h
+  pub content_put : begun_content h' ≡ begun_content h
   content_put = ∥∥₁_elim kept (hlevel props) (λ k. same_content k.safe)
 
   -- the books were in order as the call began, where the content is known
-  holds_known : is_some (content_of h) ≡ true → does_hold h ≡ true
+  holds_known : is_some (begun_content h) ≡ true → does_hold h ≡ true
   holds_known known =
       ap (λ (w : Bool). w && is_firm_with (option_map (basis_with h) h.pages.begin) h.disk) whole
       ∙ by_parts (option_map (basis_with h) h.pages.begin) h.disk known where
@@ -154,9 +154,9 @@ module _ (h h' : Heap) (zone at len : ℕ) (few : h.bigblocks ≤ MOST_BIGBLOCKS
 
   -- What the trees of the three states referred to then stands apart: of the current one for it lies below what its zone
   -- appends, of the others for the freemap stands for them.
-  begun_apart : IsKept h → is_some (content_of h) ≡ true → All (IsApart (reference at len)) (refs_begun h)
+  begun_apart : IsKept h → is_some (begun_content h) ≡ true → All (IsApart (reference at len)) (refs_begun h)
   begun_apart k known =
-      by_begin h.pages.begin (k.held (ap (λ (w : Bool). w && is_some (content_of h)) whole ∙ known)) (k.safe (holds_known known)) where
+      by_begin h.pages.begin (k.held (ap (λ (w : Bool). w && is_some (begun_content h)) whole ∙ known)) (k.safe (holds_known known)) where
         by_begin : (o : Option PageMap) → IfSome o (λ begin. (refs : List Reference) × HeldBy h (basis_with h begin) refs)
             → IfSome o (λ begin. IsSafe h (basis_with h begin)) → All (IsApart (reference at len)) (refs_with (option_map (basis_with h) o))
         by_begin None held safe = All-nil (IsApart (reference at len))
@@ -170,7 +170,7 @@ module _ (h h' : Heap) (zone at len : ℕ) (few : h.bigblocks ≤ MOST_BIGBLOCKS
 
   fixed_put : AreOfPool h.bigblocks h.append → fixed_of h' ≡ fixed_of h
   fixed_put pool = fixed_told h h' basis content_put
-      ∙ ∥∥₁_elim kept (hlevel props) (λ k. fixed_altered h.bigblocks (is_some (content_of h)) (refs_begun h) at len
+      ∙ ∥∥₁_elim kept (hlevel props) (λ k. fixed_altered h.bigblocks (is_some (begun_content h)) (refs_begun h) at len
       (in_pool pool) (begun_apart k) h.disk h'.disk alters)
 
   pub frame_put : AreOfPool h.bigblocks h.append → moment_of h'.disk ≡ moment_of h.disk → frame_of h' ≡ frame_of h

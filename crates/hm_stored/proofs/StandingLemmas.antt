@@ -6,7 +6,7 @@ use Rattle.hm_types.specs.Elements.{FullElement}
 use Rattle.hm_types.specs.declared.limits.TheConstants.{BIGBLOCK_BYTES}
 use Rattle.hm_disk.specs.Crash.{Told}
 use Rattle.hm_fields.specs.Pages.{PageMap}
-use Rattle.hm_key.specs.Balance.{IsBalanced, content_of as lists_of, full_elements}
+use Rattle.hm_key.specs.Balance.{IsBalanced, content_of, full_elements}
 use Rattle.hm_key.specs.Extents.{Extent}
 use Rattle.hm_key.specs.declared.element.Element.{Element}
 use Rattle.hm_search.specs.Tree.{elements_of}
@@ -15,7 +15,7 @@ use Rattle.hm_image.specs.Extents as image
 use Rattle.hm_image.proofs.ExtentsOfLemmas.{placed_balanced, placed_payloads}
 use Rattle.hm_stored.specs.Basis.{Basis, IsFirm, elements_in, fulls_in, nodes}
 use Rattle.hm_stored.specs.DecideFirm.{from_firm, is_firm, to_firm}
-use Rattle.hm_stored.specs.Heap.{Heap, basis_with, bytes_of, content_by, content_of, content_with, does_tell, elements_with, extents_in, pages_of, places_in}
+use Rattle.hm_stored.specs.Heap.{Heap, basis_with, bytes_of, content_by, begun_content, content_with, does_tell, elements_with, extents_in, pages_of, places_in}
 use Rattle.hm_stored.specs.Known.{AreKnown, is_known}
 use Rattle.hm_stored.specs.Log.{after_changes, filled, places_of}
 use Rattle.hm_stored.specs.Standing.{Holds, HoldsBy, basis_now}
@@ -69,7 +69,7 @@ module _ (old new : Heap) (dropped : IsDropped old new) where
             }
         by_parts n a c f u r first second third fourth fifth sixth = rw (first, second, third, fourth, fifth, sixth) refl
 
-  pub dropped_held : (root : ℕ) → root ≡ old.roots.current → IfSome (content_of old) (Holds new root)
+  pub dropped_held : (root : ℕ) → root ≡ old.roots.current → IfSome (begun_content old) (Holds new root)
   dropped_held root is = by_begin old.pages.begin refl where
     by_disk : (begin : PageMap) → old.pages.begin ≡ Some begin → (d : Option Told) → old.disk ≡ d
         → IfSome (content_with old.last (Some (basis_with old begin)) d) (Holds new root)
@@ -98,7 +98,7 @@ module _ (old new : Heap) (dropped : IsDropped old new) where
 
 -- both lists, where a test says that they are told
 both_lists : (t : Bool) (pages : PageMap) (root : ℕ) (xs : List Extent) → t ≡ true
-    → lists_of (told_elements true (cond t (Some pages) None) root) (cond t (Some xs) None) ≡ Some (elements_of pages root, xs)
+    → content_of (told_elements true (cond t (Some pages) None) root) (cond t (Some xs) None) ≡ Some (elements_of pages root, xs)
 both_lists true pages root xs told = refl
 both_lists false pages root xs told = absurd (true≢false (sym told))
 
@@ -132,7 +132,7 @@ module _ (old new : Heap) (root last : ℕ) (closed : IsClosed old) (opened : Is
     have : image.HavePlaces t.bytes b.bigblocks (elements_in b)
     have = firm_places b t.bytes room held.firm
 
-    begun_is : content_of new ≡ Some es
+    begun_is : begun_content new ≡ Some es
     begun_is =
         ap (λ (o : Option Basis). content_with new.last o new.disk) basis_is
         ∙ (ap (λ (d : Option Told). content_with new.last (Some b) d) (disk_is ∙ told)
@@ -141,7 +141,7 @@ module _ (old new : Heap) (root last : ℕ) (closed : IsClosed old) (opened : Is
         ∙ ap Some held.elements)))
 
     tells : does_tell new ≡ true
-    tells = both new.whole (is_some (content_of new)) (ap (λ (h : Heap). h.whole) opened.rest ∙ closed.whole)
+    tells = both new.whole (is_some (begun_content new)) (ap (λ (h : Heap). h.whole) opened.rest ∙ closed.whole)
         (ap (λ (o : Option (List FullElement)). is_some o) begun_is) where
           both : (s t : Bool) → s ≡ true → t ≡ true → (s && t) ≡ true
           both s t first second = rw (first, second) refl
@@ -152,7 +152,7 @@ module _ (old new : Heap) (root last : ℕ) (closed : IsClosed old) (opened : Is
         ∙ (ap (λ (o : Option Told). map (filled (bytes_of o)) (places_of (elements_in b))) (disk_is ∙ told)
         ∙ image_extents t.bytes (elements_in b))
 
-    lists_are : lists_of (elements_told new root) (extents_in new) ≡ Some (elements_in b, image.extents_of t.bytes (elements_in b))
+    lists_are : content_of (elements_told new root) (extents_in new) ≡ Some (elements_in b, image.extents_of t.bytes (elements_in b))
     lists_are =
         both_lists (does_tell new) (nodes new.pages.current) root (map (filled (bytes_of new.disk)) (places_in new)) tells
         ∙ (ap (λ (m : PageMap). Some (elements_of (nodes m) root, map (filled (bytes_of new.disk)) (places_in new))) opened.pages.current

@@ -17,7 +17,7 @@ use Rattle.hm_key.specs.declared.element.Element.{Element}
 use Rattle.hm_btree.specs.Tree.{HoldsTree, told_elements, told_mark}
 use Rattle.hm_stored.specs.Basis.{nodes}
 use Rattle.hm_stored.specs.Calls.{AnswersRoom, ChangesExtents, Places, Stays}
-use Rattle.hm_stored.specs.Heap.{Heap, basis_with, bytes_of, content_of, does_tell, extents_in, frame_of, free_of, is_firm_with, pages_of, places_in, room_of}
+use Rattle.hm_stored.specs.Heap.{Heap, basis_with, bytes_of, begun_content, does_tell, extents_in, frame_of, free_of, is_firm_with, pages_of, places_in, room_of}
 use Rattle.hm_stored.specs.Held.{IsKept}
 use Rattle.hm_stored.specs.Laws.{rests, told_together}
 use Rattle.hm_stored.specs.Log.{filled}
@@ -44,7 +44,7 @@ pub ended_whole : (old new : Heap) → IsEnded false old new → new.whole ≡ f
 ended_whole old new ends = ap (λ (h : Heap). h.whole) ends ∙ and_false old.whole
 
 pub broken_silent : (h : Heap) → h.whole ≡ false → does_tell h ≡ false
-broken_silent h broken = ap (λ (w : Bool). w && is_some (content_of h)) broken
+broken_silent h broken = ap (λ (w : Bool). w && is_some (begun_content h)) broken
 
 pub broken_tree : (h : Heap) (root : ℕ) → h.whole ≡ false → HoldsTree (pages_of h) root
 broken_tree h root broken =
@@ -60,7 +60,7 @@ ended_kept false h kept = record {
   size = kept.size;
   safe = λ holds. absurd (true≢false (sym holds
       ∙ ap (λ (w : Bool). w && is_firm_with (option_map (basis_with h) h.pages.begin) h.disk) (and_false h.whole)));
-  held = λ told. absurd (true≢false (sym told ∙ ap (λ (w : Bool). w && is_some (content_of h)) (and_false h.whole)));
+  held = λ told. absurd (true≢false (sym told ∙ ap (λ (w : Bool). w && is_some (begun_content h)) (and_false h.whole)));
 }
 
 -- the frame stays, and nothing was spent beside what the change took

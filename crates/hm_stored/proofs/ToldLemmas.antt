@@ -3,7 +3,7 @@ use Rattle.std.proofs.Common.{◌≡◌, Bool, true, false, ℕ, List, map, Opti
 use Rattle.std.specs.Prelude.{IfSome, IsTrue, ◌&&◌}
 use Rattle.hm_types.specs.Elements.{FullElement}
 use Rattle.hm_btree.specs.Tree.{told_elements}
-use Rattle.hm_key.specs.Balance.{content_of as lists_of}
+use Rattle.hm_key.specs.Balance.{content_of}
 use Rattle.hm_key.specs.Extents.{Extent}
 use Rattle.hm_key.specs.declared.element.Element.{Element}
 use Rattle.hm_search.specs.Tree.{elements_of}
@@ -23,10 +23,10 @@ abbrev pub elements_at : Heap → ℕ → List Element
 elements_at h root = elements_of (nodes h.pages.current) root
 
 told_lists : (h : Heap) (root : ℕ) (t : Bool) → does_tell h ≡ t
-    → lists_of (told_elements true (pages_of h) root) (extents_in h) ≡ cond t (Some (elements_at h root, live_in h)) None
+    → content_of (told_elements true (pages_of h) root) (extents_in h) ≡ cond t (Some (elements_at h root, live_in h)) None
 told_lists h root t told =
-    ap (λ (t : Bool). lists_of (told_elements true (cond t (Some (nodes h.pages.current)) None) root) (cond t (Some (live_in h)) None)) told ∙ by_test t where
-      by_test : (t : Bool) → lists_of (told_elements true (cond t (Some (nodes h.pages.current)) None) root) (cond t (Some (live_in h)) None)
+    ap (λ (t : Bool). content_of (told_elements true (cond t (Some (nodes h.pages.current)) None) root) (cond t (Some (live_in h)) None)) told ∙ by_test t where
+      by_test : (t : Bool) → content_of (told_elements true (cond t (Some (nodes h.pages.current)) None) root) (cond t (Some (live_in h)) None)
           ≡ cond t (Some (elements_at h root, live_in h)) None
       by_test true = refl
       by_test false = refl

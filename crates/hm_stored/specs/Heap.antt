@@ -59,8 +59,8 @@ content_with last (Some b) (Some t) = content_by last b t.bytes
 
 -- The elements as the open call began, with their payloads: where a call is open, the disk tells what it holds, and the
 -- books were in order then.
-abbrev pub content_of : Heap → Option (List FullElement)
-content_of h = content_with h.last (option_map (basis_with h) h.pages.begin) h.disk
+abbrev pub begun_content : Heap → Option (List FullElement)
+begun_content h = content_with h.last (option_map (basis_with h) h.pages.begin) h.disk
 
 -- whether the books of a state are in order, where a call is open and the disk tells
 abbrev pub is_firm_with : Option Basis → Option Told → Bool
@@ -74,7 +74,7 @@ does_hold h = h.whole && is_firm_with (option_map (basis_with h) h.pages.begin) 
 
 -- whether it tells its content
 abbrev pub does_tell : Heap → Bool
-does_tell h = h.whole && is_some (content_of h)
+does_tell h = h.whole && is_some (begun_content h)
 
 -- its nodes
 abbrev pub pages_of : Heap → Option PageMap
@@ -114,7 +114,7 @@ refs_begun h = refs_with (option_map (basis_with h) h.pages.begin)
 -- pool, and what the committed tree, the frozen one, or the current one as the call began refers to, where a call is open
 -- over books that are in order and its ids are known.
 abbrev pub fixed_of : Heap → Option (ℕ → Option (ℕ × Bool))
-fixed_of h = fixed_with h.bigblocks (is_some (content_of h)) (refs_begun h) h.disk
+fixed_of h = fixed_with h.bigblocks (is_some (begun_content h)) (refs_begun h) h.disk
 
 -- What no change of a call alters: the pages but for those of the open call, its state as that began, how much the
 -- disk holds, its moment, what the elements were, and the bytes of the disk that are fixed, settled where they were.
@@ -138,7 +138,7 @@ frame_of h = record {
   last = h.last;
   size = option_map (λ t. length t.bytes) h.disk;
   moment = moment_of h.disk;
-  content = content_of h;
+  content = begun_content h;
   fixed = fixed_of h;
 }
 

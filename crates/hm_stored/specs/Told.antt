@@ -8,7 +8,7 @@ use Rattle.hm_key.specs.Balance.{IsBalanced, content_of, full_elements}
 use Rattle.hm_key.specs.declared.element.Element.{Element}
 use Rattle.hm_btree.specs.Tree.{HoldsTree, told_elements, told_mark}
 use Rattle.hm_stored.specs.Calls.{Stays}
-use Rattle.hm_stored.specs.Heap.{Heap, content_of as begun_of, extents_in, frame_of, free_of, pages_of, room_of}
+use Rattle.hm_stored.specs.Heap.{Heap, begun_content, extents_in, frame_of, free_of, pages_of, room_of}
 
 -- its elements
 abbrev pub elements_told : Heap → ℕ → Option (List Element)
@@ -52,4 +52,4 @@ is_settled (Err (of_store fault)) = false
 -- back.
 pub record Tells (h : Heap) (root : ℕ) (es : List FullElement) : Type 0 where
   pub lists : IsSomeAnd (content_of (elements_told h root) (extents_in h)) (λ lists. IsBalanced lists.0 lists.1 × (full_elements lists.0 lists.1 ≡ es))
-  pub begun : begun_of h ≡ Some es
+  pub begun : begun_content h ≡ Some es

@@ -138,7 +138,7 @@ impl<D: Disk> Stored<D> {
     ghost use Rattle.std.specs.Prelude.{◌≡◌, ◌↔◌, IfSome, IsSome, IsTrue, List};
     ghost use Rattle.hm_types.specs.Elements.{FullElement};
     ghost use Rattle.hm_stored.specs.Content.{KeepsContent};
-    ghost use Rattle.hm_stored.specs.Heap.{content_of};
+    ghost use Rattle.hm_stored.specs.Heap.{begun_content};
     ghost use Rattle.hm_stored.specs.Known.{AreKnown};
     ghost use Rattle.hm_stored.specs.Space.{heap};
     ghost use Rattle.hm_stored.specs.Standing.{Holds};
@@ -180,7 +180,7 @@ impl<D: Disk> Stored<D> {
         ensures turn { IsDropped (heap self.old.space) (heap self.new.space) }
         ensures root { self.new.root ≡ self.old.space.books.roots.current }
         ensures disk { self.new.space.disk ≡ self.old.space.disk }
-        ensures held { IfSome (content_of (heap self.old.space)) (Holds (heap self.new.space)
+        ensures held { IfSome (begun_content (heap self.old.space)) (Holds (heap self.new.space)
             self.new.root) }
     {
         self.space.undo();
