@@ -43,7 +43,7 @@ space_refuses true free needed reply is =
     subst (λ (r : Reply). is_refusal r ≡ true) same refl
 space_refuses false free needed reply is = absurd (cc)
 
-over_refuses : (call : Call) (room : ℕ → ℕ) (free : ℕ) (reply : Reply) → refusal_over call room free ≡ Some reply → is_refusal reply ≡ true
+pub over_refuses : (call : Call) (room : ℕ → ℕ) (free : ℕ) (reply : Reply) → refusal_over call room free ≡ Some reply → is_refusal reply ≡ true
 over_refuses call room free reply is = by_first (first_refusal (checks call)) refl where
   by_first : (first : Check) → first_refusal (checks call) ≡ first → is_refusal reply ≡ true
   by_first (Some other) some =

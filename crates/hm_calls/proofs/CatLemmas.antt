@@ -1,5 +1,5 @@
 -- What `cat` answers.
-use Rattle.std.proofs.Common.{◌≡◌, ℕ, ◌+◌, ◌-◌, ◌≤◌, List, [], ◌∷◌, Bool, Option, Some, None, refl, sym, ap, subst, ◌∙◌, arith}
+use Rattle.std.proofs.Common.{◌≡◌, ℕ, ◌+◌, ◌≤◌, List, [], ◌∷◌, Bool, Option, Some, None, refl, sym, ap, subst, ◌∙◌, arith}
 use Rattle.std.specs.Option.{option_map_or}
 use Rattle.hm_types.specs.declared.id.Obj.{Obj}
 use Rattle.hm_types.specs.declared.limits.TheConstants.{GREATEST_ID}
@@ -13,7 +13,7 @@ use Rattle.hm_path.specs.Path.{IsPath}
 use Rattle.hm_key.specs.Counts.{Content, Counts}
 use Rattle.hm_key.specs.Extents.{Extent}
 use Rattle.hm_key.specs.declared.element.Element.{Element}
-use Rattle.hm_cursor.specs.Told.{OnBalanced, fulls}
+use Rattle.hm_cursor.specs.Told.{OnBalanced}
 use Rattle.hm_model.specs.Answer.{answer_at, file_bytes}
 use Rattle.hm_model.specs.Bytes.{read_at}
 use Rattle.hm_model.specs.Call.{Call, site_in}

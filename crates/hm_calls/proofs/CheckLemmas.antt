@@ -1,7 +1,7 @@
 -- What the checks that look into a store tell of the trees.
 use Rattle.std.proofs.Common.{◌≡◌, ℕ, ◌^◌, ◌<◌, arith, Bool, true, false, List, [], ◌∷◌, length, Option, Some, None, Result, Ok, Err, refl}
 use Rattle.std.proofs.Common.{true≢false, inl, inr, sym, ap, subst, ◌∙◌}
-use Rattle.std.specs.Prelude.{◌==◌, ◌-◌, IfOk, IfSome, IsTrue, if◌then◌else◌, is_some, option_map}
+use Rattle.std.specs.Prelude.{◌==◌, ◌-◌, IfOk, IfSome, if◌then◌else◌, is_some, option_map}
 use Rattle.std.specs.Bool.{nat_le, nat_lt}
 use Rattle.std.specs.List.{Contains}
 use Rattle.std.specs.Option.{option_map_or}
@@ -13,7 +13,6 @@ use Rattle.hm_types.specs.declared.id.Obj.{Obj}
 use Rattle.hm_types.specs.declared.object.Triple.{Triple}
 use Rattle.hm_key.specs.Balance.{Balanced, full_elements}
 use Rattle.hm_key.specs.Counts.{Counts, Subject, record_subject}
-use Rattle.hm_key.specs.Element.{pfs_of}
 use Rattle.hm_key.specs.Elements.{IsContent}
 use Rattle.hm_key.specs.Extents.{Extent}
 use Rattle.hm_key.specs.Versions.{HaveOwnKeys}

@@ -1,40 +1,17 @@
 -- An object that goes, with all that is about it.
-use Rattle.std.proofs.Common.{◌≡◌, ℕ, ◌^◌, List, Option, Some, None, ap, arith}
-use Rattle.std.specs.Prelude.{IfSome, IsSomeAnd}
+use Rattle.std.proofs.Common.{◌≡◌, ℕ, ◌^◌, List, ap, arith}
 use Rattle.hm_types.specs.Elements.{FullElement}
 use Rattle.hm_types.specs.Tree.{without_object}
 use Rattle.hm_types.specs.declared.id.Obj.{Obj}
-use Rattle.hm_key.specs.Balance.{IsBalanced}
 use Rattle.hm_key.specs.Counts.{Subject, bytes_subject, entry_subject, inode_subject, target_subject}
 use Rattle.hm_key.specs.declared.rec_type.TheConstants.{FILE_BYTES}
-use Rattle.hm_cursor.specs.Told.{Lists, fulls}
 use Rattle.hm_cursor.specs.Views.{IsNothing, WritesIn}
-use Rattle.hm_cursor.specs.Write.{Writes}
-use Rattle.hm_cursor.proofs.CallLemmas.{Change, told_by}
 use Rattle.hm_cursor.proofs.FollowLemmas.{follow_twice}
 use Rattle.hm_cursor.proofs.ViewsLemmas.{keys_fit_still, shows_twice, writes_again, writes_wider}
-use Rattle.hm_key.specs.Extents.{Extent}
-use Rattle.hm_key.specs.declared.element.Element.{Element}
 use Rattle.hm_objects.specs.Objects.{ChangesBy, IsGone, IsOfObject}
 use Rattle.hm_objects.proofs.NewLemmas.{entries_twice, steady}
 use Rattle.hm_files.specs.Close.{AreOlder, IsApart, RemovesBytes}
 use Rattle.hm_calls.specs.Writes.{DropsObject}
-
--- ---- two facts of one call
-
-abbrev Does : Change → Option Lists → Option Lists → Type 0
-Does A o p = IfSome o (λ was. IsBalanced was.0 was.1 → IsSomeAnd p (λ now. IsBalanced now.0 now.1 × A (fulls was) (fulls now)))
-
-does_also : (A B : Change) (o p : Option Lists) → Does A o p → Does B o p → Does (λ es es'. A es es' × B es es') o p
-does_also A B None p first second = tt
-does_also A B (Some was) None first second = first
-does_also A B (Some was) (Some now) first second = λ balanced. ((first balanced).0, ((first balanced).1, (second balanced).1))
-
-pub writes_also : {S : Type 0} (elements_of : S → Option (List Element)) (extents_of : S → Option (List Extent)) (A B : Change) (old new : S)
-    → Writes elements_of extents_of A old new → Writes elements_of extents_of B old new
-    → Writes elements_of extents_of (λ es es'. A es es' × B es es') old new
-writes_also elements_of extents_of A B old new =
-    does_also A B (told_by elements_of extents_of old) (told_by elements_of extents_of new)
 
 -- ---- the bytes after the object
 

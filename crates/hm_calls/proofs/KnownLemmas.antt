@@ -1,9 +1,8 @@
 -- What is known of the ids in a store stays known for the next id.
 use Rattle.std.proofs.Common.{◌≡◌, ℕ, ◌+◌, arith, List, Option, None, Some, Result, Ok, Err, refl, sym, ap, subst, ◌∙◌, inl, inr}
-use Rattle.std.specs.Prelude.{is_some, IfSome, OnOk}
-use Rattle.std.specs.List.{Contains}
+use Rattle.std.specs.Prelude.{is_some, OnOk}
 use Rattle.hm_types.specs.Elements.{FullElement}
-use Rattle.hm_key.specs.Balance.{Balanced, content_of}
+use Rattle.hm_key.specs.Balance.{Balanced}
 use Rattle.hm_key.specs.Element.{pfs_of}
 use Rattle.hm_key.specs.Extents.{Extent}
 use Rattle.hm_key.specs.declared.element.Element.{Element}
@@ -11,10 +10,10 @@ use Rattle.hm_records.specs.PfsRecord.{pfs_bytes}
 use Rattle.hm_types.specs.Intervals.{open_end}
 use Rattle.hm_cursor.specs.Told.{fulls}
 use Rattle.hm_cursor.specs.Views.{WritesIn}
-use Rattle.hm_cursor.specs.Write.{AreUpTo, Writes}
+use Rattle.hm_cursor.specs.Write.{Writes}
 use Rattle.hm_cursor.proofs.CallLemmas.{known_after}
 use Rattle.hm_dirs.proofs.WriteLemmas.{writes_as}
-use Rattle.hm_calls.specs.Known.{AreBelow, AreKnown, AreOlderOrSlaves, IsSlaves}
+use Rattle.hm_calls.specs.Known.{AreKnown, AreOlderOrSlaves}
 
 -- after a call by `i` that wrote in one pseudo file system
 pub older_still : (pfs i : ℕ) (New : FullElement → Type 0) (es es' : List FullElement) → WritesIn pfs i New es es' → AreOlderOrSlaves i es

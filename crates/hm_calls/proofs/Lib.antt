@@ -44,4 +44,7 @@ mod NewCallLemmas
 mod NewEffectLemmas
 mod NewStageLemmas
 pub mod RetentionLemmas
+mod PruneCheckLemmas
 pub mod PruneLemmas
+mod PruneRecordLemmas
+pub mod AnsweredLemmas

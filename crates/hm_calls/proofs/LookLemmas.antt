@@ -1,6 +1,5 @@
 -- What the calls that look answer.
-use Rattle.std.proofs.Common.{◌≡◌, ℕ, ◌+◌, ◌-◌, ◌≤◌, List, [], ◌∷◌, Bool, true, false, Option, Some, None, Result, Ok, Err, refl, sym, ap, subst, ◌∙◌, arith}
-use Rattle.std.specs.Prelude.{if◌then◌else◌}
+use Rattle.std.proofs.Common.{◌≡◌, ℕ, ◌+◌, ◌-◌, ◌≤◌, List, [], ◌∷◌, Bool, false, Option, Some, None, Result, Err, refl, sym, ap, subst, ◌∙◌, arith}
 use Rattle.std.specs.Bool.{nat_lt}
 use Rattle.std.specs.Option.{option_map_or}
 use Rattle.std.proofs.lemmas.Bool.Decides.{nat_tests}
@@ -17,7 +16,6 @@ use Rattle.hm_key.specs.Counts.{Content, Counts}
 use Rattle.hm_key.specs.Extents.{Extent}
 use Rattle.hm_key.specs.Stores.{Same}
 use Rattle.hm_key.specs.declared.element.Element.{Element}
-use Rattle.hm_cursor.specs.Told.{OnBalanced, fulls}
 use Rattle.hm_model.specs.Answer.{answer_at, kind_number, listing, size_of, target_of}
 use Rattle.hm_model.specs.Call.{Call}
 use Rattle.hm_model.specs.Due.{Check, is_dir, is_link, no_future, past_stays, refuse_if, walks}
@@ -25,7 +23,7 @@ use Rattle.hm_model.specs.Sites.{Parts, Walks, at_end}
 use Rattle.hm_model.specs.Call.{site_in}
 use Rattle.hm_model.specs.View.{Position as Place, View, object_at}
 use Rattle.hm_model.specs.Volume.{Volume}
-use Rattle.hm_model.specs.Walk.{Follow as Mode, Follows, Passed, Reaches, Stays, Walked, walk}
+use Rattle.hm_model.specs.Walk.{Follow as Mode, Follows, Stays, Walked, walk}
 use Rattle.hm_model.specs.declared.command.Command.{Command}
 use Rattle.hm_model.specs.declared.command.Command.TheVariants.{Ls, Readlink, Stat}
 use Rattle.hm_model.specs.declared.reply.Reply.{Reply}
@@ -42,7 +40,7 @@ use Rattle.hm_dirs.specs.declared.position.Course.{Course}
 use Rattle.hm_dirs.specs.declared.position.Stand.{Stand}
 use Rattle.hm_calls.proofs.PlaceLemmas.{are_drawn}
 use Rattle.hm_calls.specs.Places.{IsBadPath, IsReached, ask_kind}
-use Rattle.hm_calls.specs.Replies.{IsAcceptedBy, IsRefusalOf, Looks}
+use Rattle.hm_calls.specs.Replies.{IsAcceptedBy, Looks}
 use Rattle.hm_calls.specs.Stop.{Decides, OfRefusal}
 use Rattle.hm_calls.specs.declared.stop.Stop.{Stop}
 use Rattle.hm_calls.specs.declared.stop.Stop.TheVariants.{Failed, Refused}
@@ -50,7 +48,7 @@ use Rattle.hm_calls.proofs.KindLemmas.{kind_is, number_found}
 use Rattle.hm_calls.proofs.RefusalLemmas.{IsOfOne, IsRefused, PassEarly, after_early, all_pass, future_refuses, of_ls, of_readlink, of_stat}
 use Rattle.hm_calls.proofs.RefusalLemmas.{one_accepts, one_refuses, pass, stop, walk_refuses, word_refuses}
 use Rattle.hm_cursor.specs.Names.{IsHash}
-use Rattle.hm_calls.proofs.SceneLemmas.{IsEnd, IsStoppedBy, OnScenes, call_in, decided, scenes_back, scenes_balanced, scenes_both, scenes_shown}
+use Rattle.hm_calls.proofs.SceneLemmas.{IsEnd, IsStoppedBy, OnScenes, call_in, decided, scenes_back, scenes_balanced, scenes_both}
 use Rattle.hm_calls.proofs.SceneLemmas.{scenes_so, scenes_unreached}
 
 -- a call that needs no room has it

@@ -1,35 +1,29 @@
 -- What `mv` tells and does over a store, from what its steps tell.
-use Rattle.std.proofs.Common.{◌≡◌, ℕ, ◌+◌, ◌≤◌, List, [], ◌∷◌, Bool, false, Option, Some, None, refl, sym, ap, subst, ◌∙◌}
-use Rattle.std.specs.Prelude.{◌==◌, ◌&&◌, ◌||◌, IfSome, if◌then◌else◌}
+use Rattle.std.proofs.Common.{◌≡◌, ℕ, ◌+◌, ◌≤◌, List, [], ◌∷◌, false, Option, Some, None, sym, ap, subst, ◌∙◌}
+use Rattle.std.specs.Prelude.{◌==◌, ◌&&◌, ◌||◌, if◌then◌else◌}
 use Rattle.std.specs.List.{list_any}
-use Rattle.hm_types.specs.Elements.{FullElement}
 use Rattle.hm_types.specs.declared.id.Id.{Id}
 use Rattle.hm_types.specs.declared.limits.TheConstants.{GREATEST_ID}
 use Rattle.hm_path.specs.Path.{IsPath}
 use Rattle.hm_path.specs.declared.part.Part.{Part}
 use Rattle.hm_key.specs.Extents.{Extent}
-use Rattle.hm_key.specs.Versions.{HaveOwnKeys}
 use Rattle.hm_key.specs.declared.element.Element.{Element}
-use Rattle.hm_model.specs.Call.{Call}
 use Rattle.hm_model.specs.Due.{Check, refuse_if}
-use Rattle.hm_model.specs.Sites.{MakesName, Parsed, Parts, TakesName}
+use Rattle.hm_model.specs.Sites.{MakesName, Parts, TakesName}
 use Rattle.hm_model.specs.declared.command.Command.TheVariants.{Mv}
 use Rattle.hm_model.specs.declared.reply.Reply.{Reply}
-use Rattle.hm_model.specs.declared.reply.Reply.TheVariants.{CrossPfs, Done, IntoItself, ReadOnly}
-use Rattle.hm_dirs.specs.Walk.{IsDrawn, IsRead, Scene}
+use Rattle.hm_model.specs.declared.reply.Reply.TheVariants.{CrossPfs, IntoItself, ReadOnly}
+use Rattle.hm_dirs.specs.Walk.{IsDrawn, Scene}
 use Rattle.hm_dirs.specs.declared.position.Course.{Course}
 use Rattle.hm_dirs.specs.declared.position.Stand.{Stand}
-use Rattle.hm_calls.specs.Changes.{Changes, ChangesTree}
-use Rattle.hm_calls.specs.Known.{AreBelow}
-use Rattle.hm_calls.specs.Replies.{IsAcceptedBy}
 use Rattle.hm_calls.specs.declared.stop.Stop.{Stop}
 use Rattle.hm_calls.proofs.LinkLemmas.{in_slave}
 use Rattle.hm_calls.proofs.MakeLemmas.{IsNewPlace}
-use Rattle.hm_calls.proofs.MoveLemmas.{leads, mv, mv_after, mv_stands, paths_moved}
-use Rattle.hm_calls.proofs.RefusalLemmas.{IsFirst, IsRefused, PassBoth, after_both, of_mv, pass, refuse_first, refuse_second, stop, two_accepts, two_refuses}
+use Rattle.hm_calls.proofs.MoveLemmas.{leads, mv_after, mv_stands}
+use Rattle.hm_calls.proofs.RefusalLemmas.{IsFirst, IsRefused, PassBoth, after_both, of_mv, pass, refuse_first, refuse_second, stop, two_refuses}
 use Rattle.hm_calls.proofs.RemoveLemmas.{master_check, unfound}
 use Rattle.hm_calls.proofs.SceneLemmas.{IsSet, IsStoppedBy, OnScenes, call_in, scenes_all, scenes_both, scenes_so, scenes_watching}
-use Rattle.hm_calls.proofs.StageLemmas.{IsTaken, Wrote, writes_changes}
+use Rattle.hm_calls.proofs.StageLemmas.{IsTaken}
 
 -- ---- scenes of another course, whose last id is the same
 

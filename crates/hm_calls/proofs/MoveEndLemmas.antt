@@ -1,12 +1,8 @@
 -- What `mv` tells beside a name and over one, and what it does to the tree there.
-use Rattle.std.proofs.Common.{◌≡◌, ℕ, ◌+◌, List, [], ◌∷◌, Bool, true, false, Option, Some, None, refl, sym, ap, subst, ◌∙◌}
-use Rattle.std.specs.Prelude.{◌==◌, ◌&&◌, ◌||◌, IfSome, if◌then◌else◌}
-use Rattle.std.specs.Bool.{nat_le}
-use Rattle.std.specs.List.{list_any}
+use Rattle.std.proofs.Common.{◌≡◌, ℕ, List, [], ◌∷◌, false, Option, Some, None, refl, sym, ap, subst, ◌∙◌}
+use Rattle.std.specs.Prelude.{◌==◌, ◌||◌, IfSome, if◌then◌else◌}
 use Rattle.std.specs.Option.{option_map_or}
-use Rattle.std.proofs.lemmas.Bool.{eqb-true}
-use Rattle.hm_types.specs.Elements.{FullElement}
-use Rattle.hm_types.specs.Tree.{FileTree, named_in, object_in}
+use Rattle.hm_types.specs.Tree.{FileTree, object_in}
 use Rattle.hm_types.specs.declared.id.Obj.{Obj}
 use Rattle.hm_types.specs.declared.object.Object.{Object}
 use Rattle.hm_model.specs.Call.{Call}
@@ -18,11 +14,11 @@ use Rattle.hm_path.specs.declared.part.Part.{Part}
 use Rattle.hm_dirs.specs.Walk.{Scene, place_of, when_of}
 use Rattle.hm_dirs.specs.declared.position.Stand.{Stand}
 use Rattle.hm_calls.specs.Due.{space_for}
-use Rattle.hm_calls.specs.Moves.{object_beside, over_checks}
+use Rattle.hm_calls.specs.Moves.{over_checks}
 use Rattle.hm_calls.proofs.KindLemmas.{number_found}
 use Rattle.hm_calls.proofs.LinkLemmas.{in_slave}
 use Rattle.hm_calls.proofs.MakeLemmas.{IsNewPlace, full_check, tree_at}
-use Rattle.hm_calls.proofs.MoveLemmas.{is_itself, mv_stands, stands_under, way_check}
+use Rattle.hm_calls.proofs.MoveLemmas.{is_itself, mv_stands}
 use Rattle.hm_calls.proofs.RefusalLemmas.{IsFirst, pass}
 use Rattle.hm_calls.proofs.StageLemmas.{IsTaken}
 

@@ -15,6 +15,7 @@ use Rattle.hm_key.specs.Extents.{Extent}
 use Rattle.hm_key.specs.Stores.{Same}
 use Rattle.hm_key.specs.declared.element.Element.{Element}
 use Rattle.hm_cursor.specs.Views.{WritesIn}
+use Rattle.hm_model.specs.Call.{Call}
 use Rattle.hm_model.specs.Caused.{IsPossible, possible}
 use Rattle.hm_model.specs.Due.{Check, accepted, early_checks, first_refusal, good_path, has_id, no_future, refuse_if}
 use Rattle.hm_model.specs.Sites.{MakesName, Parsed, Parts}
@@ -27,7 +28,7 @@ use Rattle.hm_dirs.specs.declared.position.Course.{Course}
 use Rattle.hm_pfs.specs.Systems.{IsNotMadeBy}
 use Rattle.hm_calls.specs.Call.{OnCalls}
 use Rattle.hm_calls.specs.Due.{due_over, refusal_over}
-use Rattle.hm_calls.specs.NewSystems.{Founds, HasKnownNumbers, IsDueTo, name_checks, on_a_system, system_command}
+use Rattle.hm_calls.specs.NewSystems.{Founds, HasKnownNumbers, IsDueTo, IsRefusedTo, name_checks, on_a_system, system_command}
 use Rattle.hm_calls.specs.Possible.{IsGiven, IsOwn}
 use Rattle.hm_calls.specs.Scenes.{InScenes, IsSet, call_in}
 use Rattle.hm_calls.specs.Stages.{AnswersAll, IsAmong, last_checks, place_checks}
@@ -43,7 +44,6 @@ use Rattle.hm_calls.proofs.NewSystemLemmas.{system_early, system_paths}
 use Rattle.hm_calls.proofs.RefusalLemmas.{IsRefused, id_left, pass}
 use Rattle.hm_calls.proofs.SceneLemmas.{calls_of, scenes_all, scenes_so}
 use Rattle.hm_calls.proofs.StageLemmas.{Wrote}
-use Rattle.hm_calls.proofs.SystemLemmas.{refused_due}
 
 -- ---- replies
 
@@ -76,13 +76,13 @@ pfs_apart a b differ is = differ (ap (λ (n : ℕ). record { 0 = n }) is)
 
 -- ---- what is due
 
--- what each call is due is due where its volume is counted
-due_counted : (hash : List ℕ → ℕ) (id numbers : ℕ) (command : Command) (es : Option (List Element)) (xs : Option (List Extent)) (room : ℕ → ℕ) (free : ℕ)
-    (reply : Reply) → OnCalls hash id es xs (λ _ call. call.command ≡ command → reply ≡ due_over call room free)
-    → IsDueTo hash id numbers command es xs room free reply
-due_counted hash id numbers command None xs room free reply told = tt
-due_counted hash id numbers command (Some es) None room free reply told = tt
-due_counted hash id numbers command (Some es) (Some xs) room free reply told = λ balanced call is asks counted. told balanced call is asks
+-- as each call refuses it refuses where its volume is counted
+refused_counted : (hash : List ℕ → ℕ) (id numbers : ℕ) (command : Command) (es : Option (List Element)) (xs : Option (List Extent)) (room : ℕ → ℕ)
+    (free : ℕ) (reply : Reply) → OnCalls hash id es xs (λ _ call. call.command ≡ command → refusal_over call room free ≡ Some reply)
+    → IsRefusedTo hash id numbers command es xs room free reply
+refused_counted hash id numbers command None xs room free reply told = tt
+refused_counted hash id numbers command (Some es) None room free reply told = tt
+refused_counted hash id numbers command (Some es) (Some xs) room free reply told = λ balanced call is asks counted. told balanced call is asks
 
 module _ {S : Type 0} (elements_of : S → Option (List Element)) (mark_of : S → Key → ℕ) (extents_of : S → Option (List Extent)) (room_of : S → ℕ → ℕ)
     (free_of : S → ℕ) (hash : List ℕ → ℕ) (id numbers : ℕ) (new : NewSystem) (word : List ℕ) (shared : ℕ) (old now : S) where
@@ -93,19 +93,17 @@ module _ {S : Type 0} (elements_of : S → Option (List Element)) (mark_of : S �
       → Founds elements_of mark_of extents_of room_of free_of hash id numbers new word shared old now (Err stopped)
   founds_stopped (Failed fault) refused same = tt
   founds_stopped (Refused reply) refused same = (
-    due_counted hash id numbers (system_command new word shared) (elements_of old) (extents_of old) (room_of old) (free_of old) reply
-        (refused_due hash id (λ call. call.command ≡ system_command new word shared) (elements_of old) (extents_of old) (room_of old) (free_of old) reply
-        refused),
+    refused_counted hash id numbers (system_command new word shared) (elements_of old) (extents_of old) (room_of old) (free_of old) reply refused,
     same,
   )
 
   -- one whose last stage stopped it
   pub founds_late : (stopped : Stop)
-      → OfRefusal (IsDueTo hash id numbers (system_command new word shared) (elements_of old) (extents_of old) (room_of old) (free_of old)) stopped
+      → OfRefusal (IsRefusedTo hash id numbers (system_command new word shared) (elements_of old) (extents_of old) (room_of old) (free_of old)) stopped
       → OfRefusal (λ _. Same elements_of mark_of extents_of room_of free_of old now) stopped
       → Founds elements_of mark_of extents_of room_of free_of hash id numbers new word shared old now (Err stopped)
-  founds_late (Failed fault) due same = tt
-  founds_late (Refused reply) due same = (due, same)
+  founds_late (Failed fault) refused same = tt
+  founds_late (Refused reply) refused same = (refused, same)
 
 -- calls of a word that was read, and which passed what it is asked
 pub system_asked : (id : ℕ) (course : Course) (new : NewSystem) (word : List ℕ) (shared : ℕ) (parts : List Part) {T : Type 0} {x : T}
@@ -139,32 +137,34 @@ module _ {id : ℕ} {course : Course} {command : Command} {paths : List Parsed} 
       × ((busy : Option ℕ) → HasKnownNumbers numbers scene.elements scene.volume
       → first_refusal (last_checks (call_in hash command paths busy scene) room free) ≡ check)
 
-  late_due : (numbers : ℕ) (es : Option (List Element)) (xs : Option (List Extent)) (F : Scene → Type 0) (check : Check) (reply : Reply)
+  -- so all checks do
+  late_over : (numbers : ℕ) (es : Option (List Element)) (xs : Option (List Extent)) (F : Scene → Type 0) (check : Check)
+      → (P : Call → Type 0)
       → ((ps : List Parsed) (busy : Option ℕ) (scene : Scene) → IsSet hash course scene → F scene → HasKnownNumbers numbers scene.elements scene.volume
-      → option_map_or (λ r. r) check (accepted (call_in hash command ps busy scene)) ≡ reply)
-      → InScenes hash course es xs (λ scene. F scene × IsLast numbers check scene) → IsDueTo hash id numbers command es xs room free reply
-  late_due numbers es xs F check reply told known =
-      calls_of hash id course command es xs (λ list call. HasKnownNumbers numbers list call.volume → reply ≡ due_over call room free) asked.before
+      → refusal_over (call_in hash command ps busy scene) room free ≡ check → P (call_in hash command ps busy scene))
+      → InScenes hash course es xs (λ scene. F scene × IsLast numbers check scene)
+      → OnCalls hash id es xs (λ list call. call.command ≡ command → HasKnownNumbers numbers list call.volume → P call)
+  late_over numbers es xs F check P told known =
+      calls_of hash id course command es xs (λ list call. HasKnownNumbers numbers list call.volume → P call) asked.before
       (λ busy ps reads.
       scenes_so hash course es xs (λ scene. F scene × IsLast numbers check scene)
-      (λ scene. HasKnownNumbers numbers scene.elements scene.volume → reply ≡ due_over (call_in hash command ps busy scene) room free)
+      (λ scene. HasKnownNumbers numbers scene.elements scene.volume → P (call_in hash command ps busy scene))
       (λ scene set is counted.
-      sym (ap (λ (c : Check). option_map_or (λ r. r) c (accepted (call_in hash command ps busy scene)))
+      told ps busy scene set is.0 counted
       (subst (λ (l : List Parsed). refusal_over (call_in hash command l busy scene) room free ≡ check) (sym (asked.only ps reads))
       (late_is busy scene check set
       (first_none (place_checks (call_in hash command paths busy scene)) (last_checks (call_in hash command paths busy scene) room free) (is.1.0 busy)
-      ∙ is.1.1 busy counted)))
-      ∙ told ps busy scene set is.0 counted)) known.each)
+      ∙ is.1.1 busy counted)))) known.each)
 
   -- it refuses
   pub last_refuses : {T U : Type 0} {x : T} (numbers : ℕ) (es : Option (List Element)) (xs : Option (List Extent)) (stopped : Stop)
       → InScenes hash course es xs (λ scene. (busy : Option ℕ) → AnswersAll (place_checks (call_in hash command paths busy scene)) (Ok x))
       → InScenes hash course es xs (λ scene. (busy : Option ℕ) → HasKnownNumbers numbers scene.elements scene.volume
       → AnswersAll {T = U} (last_checks (call_in hash command paths busy scene) room free) (Err stopped))
-      → OfRefusal (IsDueTo hash id numbers command es xs room free) stopped
+      → OfRefusal (IsRefusedTo hash id numbers command es xs room free) stopped
   last_refuses numbers es xs (Failed fault) places told = tt
   last_refuses {T = T} {U = U} {x = x} numbers es xs (Refused reply) places told =
-      late_due numbers es xs (λ _. Unit {0}) (Some reply) reply (λ ps busy scene set known counted. refl)
+      late_over numbers es xs (λ _. Unit {0}) (Some reply) (λ call. refusal_over call room free ≡ Some reply) (λ ps busy scene set known counted is. is)
       (map_in {P = λ scene. ((busy : Option ℕ) → AnswersAll (place_checks (call_in hash command paths busy scene)) (Ok x))
       × ((busy : Option ℕ) → HasKnownNumbers numbers scene.elements scene.volume
       → AnswersAll {T = U} (last_checks (call_in hash command paths busy scene) room free) (Err (Refused reply)))}
@@ -180,7 +180,9 @@ module _ {id : ℕ} {course : Course} {command : Command} {paths : List Parsed} 
       → AnswersAll (last_checks (call_in hash command paths busy scene) room free) (Ok y))
       → IsDueTo hash id numbers command es xs room free reply
   all_passed {x = x} {y = y} numbers es xs F reply accepts known places told =
-      late_due numbers es xs F None reply accepts
+      late_over numbers es xs F None (λ call. reply ≡ due_over call room free)
+      (λ ps busy scene set is counted none.
+      sym (ap (λ (c : Check). option_map_or (λ r. r) c (accepted (call_in hash command ps busy scene))) none ∙ accepts ps busy scene set is counted))
       (map_in {P = λ scene. F scene × (((busy : Option ℕ) → AnswersAll (place_checks (call_in hash command paths busy scene)) (Ok x))
       × ((busy : Option ℕ) → HasKnownNumbers numbers scene.elements scene.volume
       → AnswersAll (last_checks (call_in hash command paths busy scene) room free) (Ok y)))}

@@ -28,7 +28,7 @@ use Rattle.hm_dirs.specs.declared.position.Stand.{Stand}
 use Rattle.hm_dirs.specs.declared.spot.Spot.{Spot}
 use Rattle.hm_pfs.specs.Records.{IsFirstUnused, IsLeastUnused}
 use Rattle.hm_calls.specs.Known.{AreKnown, AreOlderOrSlaves}
-use Rattle.hm_calls.specs.NewSystems.{Founds, HasKnownNumbers, IsDueTo, IsNewThere, IsReadThere, PutsLinked, system_checks, system_command}
+use Rattle.hm_calls.specs.NewSystems.{Founds, HasKnownNumbers, IsRefusedTo, IsNewThere, IsReadThere, PutsLinked, system_checks, system_command}
 use Rattle.hm_calls.specs.Scenes.{InScenes, call_in, tree_at}
 use Rattle.hm_calls.specs.Stages.{AnswersAll, last_checks, place_checks}
 use Rattle.hm_calls.specs.Stop.{OfRefusal}
@@ -93,7 +93,7 @@ module _ {S : Type 0} {elements_of : S → Option (List Element)} {mark_of : S �
         → InScenes hash course (elements_of start) (extents_of start) (λ scene. (busy : Option ℕ)
         → AnswersAll (place_checks (call_in hash (system_command new word shared) (Parts parts ∷ []) busy scene)) (Ok x))
         → TellsLast {T = U} (Err stopped)
-        → OfRefusal (IsDueTo hash id numbers (system_command new word shared) (elements_of start) (extents_of start) (room_of start) (free_of start)) stopped
+        → OfRefusal (IsRefusedTo hash id numbers (system_command new word shared) (elements_of start) (extents_of start) (room_of start) (free_of start)) stopped
     refused_last {stopped = stopped} asked places told =
         last_refuses asked hash (room_of start) (free_of start) numbers (elements_of start) (extents_of start) stopped places (tells_last told)
 

@@ -1,20 +1,17 @@
 -- The retentions that prunes leave, as the model has them.
-use Rattle.std.proofs.Common.{◌≡◌, ℕ, ◌+◌, ◌-◌, ◌^◌, ◌<◌, ◌≤◌, List, [], ◌∷◌, ◌++◌, Bool, true, false, length, map, max, min, refl, sym, ap, subst, ◌∙◌, inl, inr, arith}
-use Rattle.std.specs.Prelude.{◌⊎◌, ◌↔◌, if◌then◌else◌}
+use Rattle.std.proofs.Common.{◌≡◌, ℕ, ◌+◌, ◌-◌, ◌^◌, ◌<◌, ◌≤◌, List, [], ◌∷◌, Bool, true, false, length, map, max, min, refl, sym, ap, subst, ◌∙◌, inl, inr, arith}
+use Rattle.std.specs.Prelude.{◌⊎◌, if◌then◌else◌}
 use Rattle.std.specs.Bool.{nat_le, nat_lt}
 use Rattle.std.specs.List.{Contains}
 use Rattle.std.specs.List.Sorted.{IsPermutation}
-use Rattle.std.proofs.lemmas.Bool.{cases_lt}
-use Rattle.std.proofs.lemmas.Bool.Decides.{nat_tests}
 use Rattle.std.proofs.lemmas.List.Sorted.{Contains-permutation, IsPermutation-map, IsPermutation-sym}
 use Rattle.hm_types.specs.Intervals.{Keeps, open_end}
 use Rattle.hm_types.specs.declared.id.Id.{Id}
-use Rattle.hm_types.specs.declared.limits.TheConstants.{MOST_INTERVALS}
-use Rattle.hm_retain.specs.Intervals.{IsIntervals, KeepsExactly}
+use Rattle.hm_retain.specs.Intervals.{IsIntervals}
 use Rattle.hm_retain.specs.Retention.{IsCut, IsListed, IsRetention, IsTooMany}
 use Rattle.hm_model.specs.Cut.{cut, greatest, maximal, pruned, with_interval, within}
 use Rattle.hm_model.proofs.RetentionLemmas.{IsCut-cut, IsIntervals-cut, alone}
-use Rattle.hm_records.specs.PfsRecord.{FitsRole, IsPfsRecord}
+use Rattle.hm_records.specs.PfsRecord.{IsPfsRecord}
 use Rattle.hm_records.specs.declared.pfs_record.PfsRecord.{PfsRecord}
 use Rattle.hm_records.proofs.MemberLemmas.{has_cases, has_head, has_none, has_tail}
 

@@ -5,7 +5,7 @@ use Rattle.hm_key.specs.Extents.{Extent}
 use Rattle.hm_key.specs.declared.element.Element.{Element}
 use Rattle.hm_cursor.specs.Told.{OnBalanced, fulls}
 use Rattle.hm_model.specs.Call.{Call}
-use Rattle.hm_model.specs.Due.{Check, checks, walks}
+use Rattle.hm_model.specs.Due.{Check, walks}
 use Rattle.hm_path.specs.declared.part.Part.{Part}
 use Rattle.hm_model.specs.Sites.{At, Located, Nowhere, Parsed, ReadsWords, Site, at_end, in_directory}
 use Rattle.hm_model.specs.Walk.{Follow as Mode, Follows, Passed, Reaches, Refuses, Stays, Walked as Outcome, walk}

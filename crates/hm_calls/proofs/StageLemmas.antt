@@ -25,7 +25,7 @@ use Rattle.hm_model.specs.declared.reply.Reply.TheVariants.{BadPath, ReadOnly}
 use Rattle.hm_records.proofs.CountsLemmas.{own_keys-sorted}
 use Rattle.hm_records.specs.KeysFit.{KeysFit}
 use Rattle.hm_volume.specs.Shown.{ShowsAs}
-use Rattle.hm_dirs.specs.Walk.{AreDrawn, EndsAt, IsDrawn, IsRead, OnShown, Scene, place_of}
+use Rattle.hm_dirs.specs.Walk.{AreDrawn, IsDrawn, IsRead, OnShown, Scene, place_of}
 use Rattle.hm_dirs.specs.declared.position.Course.{Course}
 use Rattle.hm_dirs.specs.declared.position.Stand.{Stand}
 use Rattle.hm_calls.specs.Changes.{Changes, ChangesTree}

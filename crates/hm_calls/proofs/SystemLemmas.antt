@@ -1,7 +1,6 @@
 -- Where the calls that speak of a pseudo file system come, and what `pfs-status` answers there.
 use Rattle.std.proofs.Common.{◌≡◌, ℕ, suc, ◌+◌, ◌-◌, ◌^◌, ◌≤◌, List, [], ◌∷◌, ◌++◌, Bool, true, false, cond, length, Option, Some, None, Result, Ok, Err, refl, sym, ap, subst, ◌∙◌, arith}
-use Rattle.std.specs.Prelude.{◌==◌, IfOk, IfSome, find, if◌then◌else◌}
-use Rattle.std.specs.Bool.{nat_lt}
+use Rattle.std.specs.Prelude.{◌==◌, IfOk, IfSome, find}
 use Rattle.std.specs.List.{AllZip, Contains}
 use Rattle.std.specs.Option.{option_map_or}
 use Rattle.std.proofs.lemmas.Bool.{eqb-true}
@@ -12,7 +11,6 @@ use Rattle.hm_types.specs.declared.limits.TheConstants.{GREATEST_ID}
 use Rattle.hm_path.specs.declared.part.Part.{Part}
 use Rattle.hm_path.specs.Path.{IsPath}
 use Rattle.hm_key.specs.Balance.{full_elements}
-use Rattle.hm_key.specs.Counts.{Counts, record_subject}
 use Rattle.hm_key.specs.Elements.{IsContent}
 use Rattle.hm_key.specs.Extents.{Extent}
 use Rattle.hm_key.specs.Stores.{Same}
@@ -22,7 +20,7 @@ use Rattle.hm_cursor.proofs.PayloadLemmas.{full_sorted}
 use Rattle.hm_cursor.specs.Told.{IsRecordNow, Lists, OnBalanced, fulls}
 use Rattle.hm_model.specs.Answer.{is_master, record_of}
 use Rattle.hm_model.specs.Call.{Call, first_site, site_in, site_system}
-use Rattle.hm_model.specs.Caused.{IsPossible, possible}
+use Rattle.hm_model.specs.Caused.{IsPossible, number_of, possible}
 use Rattle.hm_model.specs.Due.{Check, a_dir, accepted, early_checks, first_refusal, good_path, has_id, has_snapshots, intervals_left, no_future, past_stays, refuse_if, walks}
 use Rattle.hm_model.specs.Sites.{Parsed, Parts, ReadsWords, Use, Walks, at_end}
 use Rattle.hm_model.specs.View.{Position as Place, View}
@@ -31,7 +29,7 @@ use Rattle.hm_model.specs.Walk.{Follow as Mode, Follows, TakesPfs, Walked as Out
 use Rattle.hm_model.specs.declared.command.Command.{Command}
 use Rattle.hm_model.specs.declared.command.Command.TheVariants.{PfsStatus, Prune, PruneAll}
 use Rattle.hm_model.specs.declared.reply.Reply.{Reply}
-use Rattle.hm_model.specs.declared.reply.Reply.TheVariants.{NotFound, PfsIs, ReadOnly}
+use Rattle.hm_model.specs.declared.reply.Reply.TheVariants.{NotDir, NotFound, NotRetained, PfsIs, ReadOnly}
 use Rattle.hm_model.proofs.ReadLemmas.{read_once}
 use Rattle.hm_records.specs.KeysFit.{KeysFit}
 use Rattle.hm_records.specs.PfsRecord.{pfs_bytes}
@@ -41,24 +39,24 @@ use Rattle.hm_records.proofs.CountsLemmas.{own_keys-sorted, record_counts}
 use Rattle.hm_volume.specs.Records.{IsRecordFor, is_master as is_master_role}
 use Rattle.hm_volume.specs.Shown.{ShowsAs}
 use Rattle.hm_volume.proofs.RecordLemmas.{system_none, system_some}
-use Rattle.hm_dirs.specs.Walk.{AreDrawn, IsRead, LooksAtEnd, OnShown, Scene, place_of}
+use Rattle.hm_dirs.specs.Walk.{AreDrawn, OnShown, Scene, place_of}
 use Rattle.hm_dirs.specs.declared.position.Course.{Course}
 use Rattle.hm_dirs.specs.declared.position.Stand.{Stand}
 use Rattle.hm_calls.specs.Call.{IsCall, OnCalls}
 use Rattle.hm_calls.specs.Due.{due_over, refusal_over, space_left}
 use Rattle.hm_calls.specs.Places.{IsBadPath, IsReached}
-use Rattle.hm_calls.specs.Possible.{Gives, IsGiven, IsLost}
+use Rattle.hm_calls.specs.Possible.{Gives, IsGiven, IsLost, IsOwn}
 use Rattle.hm_calls.specs.Replies.{IsAcceptedBy, IsRefusalOf, Looks}
-use Rattle.hm_calls.specs.Stop.{Decides, IfRefused, OfRefusal}
-use Rattle.hm_calls.specs.Systems.{ComesTo, IsOnSystem, MayGive, PassesEarly, later_checks, of_prune, of_prune_all, of_status}
+use Rattle.hm_calls.specs.Stop.{Decides, IfRefused, OfRefusal, TellsRefusal}
+use Rattle.hm_calls.specs.Systems.{ComesTo, IsOnSystem, PassesEarly, later_checks, of_prune, of_prune_all, of_status}
 use Rattle.hm_calls.specs.declared.stop.Stop.{Stop}
 use Rattle.hm_calls.specs.declared.stop.Stop.TheVariants.{Failed, Refused}
 use Rattle.hm_calls.proofs.LookLemmas.{no_zones}
 use Rattle.hm_calls.proofs.MayReplyLemmas.{AsksOne, future_gives, lost_gives, past_gives, word_gives}
 use Rattle.hm_calls.proofs.PlaceLemmas.{are_drawn}
-use Rattle.hm_calls.proofs.RefusalLemmas.{AsRead, IsOfOne, IsRefused, PassEarly, after_early, all_pass, future_refuses, pass, past_refuses, read_one}
+use Rattle.hm_calls.proofs.RefusalLemmas.{AsRead, IsOfOne, PassEarly, after_early, all_pass, future_refuses, pass, past_refuses, read_one}
 use Rattle.hm_calls.proofs.RefusalLemmas.{refuse_one, walk_refuses, word_refuses}
-use Rattle.hm_calls.proofs.SceneLemmas.{IsEnd, IsSet, IsStoppedBy, OnScenes, call_in, calls_of, decided, scenes_reached, scenes_so, scenes_unreached}
+use Rattle.hm_calls.proofs.SceneLemmas.{IsEnd, IsSet, IsStoppedBy, call_in, calls_of, decided, scenes_reached, scenes_so, scenes_unreached}
 use Rattle.hm_calls.proofs.StageLemmas.{no_ids, told_before}
 use Rattle.std.proofs.lemmas.Bool.{false≢true}
 
@@ -102,11 +100,42 @@ pub ended : {T : Type 0} (P : Reply → Type 0) (result : Result T Stop) (stoppe
 ended {T} P result stopped is told = subst (λ (r : Result T Stop). IfRefused r P) (sym is) told
 
 -- a reply after the early checks
-pub given_later : (id : ℕ) (command : Command) (reply : Reply) → PassesEarly id command → MayGive command reply → IsGiven id command reply
-given_later id command reply early may busy = record {
-  own = may.own;
-  listed = λ paths reads. subst (λ (check : Check). IsPossible check (possible command paths) reply) (sym (early busy paths reads)) (may.listed paths);
+pub given_later : (id : ℕ) (command : Command) (reply : Reply) → IsOwn reply → PassesEarly id command
+    → ((paths : List Parsed) → Contains (possible command paths) (number_of reply)) → IsGiven id command reply
+given_later id command reply own early listed busy = record {
+  own = own;
+  listed = λ paths reads. subst (λ (check : Check). IsPossible check (possible command paths) reply) (sym (early busy paths reads)) (listed paths);
 }
+
+-- each step to its end that refuses tells a refusal
+lost_refuses : (ids : Bool) (reply : Reply) → IsLost ids reply → TellsRefusal reply
+lost_refuses ids NotFound lost = refl
+lost_refuses ids NotDir lost = refl
+lost_refuses ids NotRetained lost = refl
+lost_refuses ids other lost = absurd lost
+
+test_refuses : (test : Bool) (refusal reply : Reply) → TellsRefusal refusal → refuse_if test refusal ≡ Some reply → TellsRefusal reply
+test_refuses true refusal reply told is = let same : refusal ≡ reply = cc in subst TellsRefusal same told
+test_refuses false refusal reply told is = cc
+
+pub system_word_refuses : {T : Type 0} (word : List ℕ) (result : Result T Stop) (stopped : Stop) → result ≡ Err stopped → OfRefusal (IsBadPath word) stopped
+    → IfRefused result TellsRefusal
+system_word_refuses word result stopped is bad = ended TellsRefusal result stopped is (by stopped bad) where
+  by : (s : Stop) → OfRefusal (IsBadPath word) s → OfRefusal TellsRefusal s
+  by (Refused reply) told = subst TellsRefusal (sym told.1) refl
+  by (Failed fault) told = tt
+
+pub system_check_refuses : {T : Type 0} (test : Bool) (refusal : Reply) (result : Result T Stop) (stopped : Stop) → TellsRefusal refusal → result ≡ Err stopped
+    → Decides {T = Unit {0}} (refuse_if test refusal) (Err stopped) → IfRefused result TellsRefusal
+system_check_refuses test refusal result stopped told is decides = ended TellsRefusal result stopped is (by stopped decides) where
+  by : (s : Stop) → Decides {T = Unit {0}} (refuse_if test refusal) (Err s) → OfRefusal TellsRefusal s
+  by (Refused reply) check = test_refuses test refusal reply told check
+  by (Failed fault) check = tt
+
+pub system_lost_refuses : {T : Type 0} (ids : Bool) (result : Result T Stop) → IfRefused result (IsLost ids) → IfRefused result TellsRefusal
+system_lost_refuses ids (Ok stand) lost = tt
+system_lost_refuses ids (Err (Refused reply)) lost = lost_refuses ids reply lost
+system_lost_refuses ids (Err (Failed fault)) lost = tt
 
 -- a call that only looks, and was stopped
 pub looks_stopped : {S : Type 0} (elements_of : S → Option (List Element)) (mark_of : S → Key → ℕ) (extents_of : S → Option (List Extent))

@@ -3,7 +3,7 @@ use Rattle.std.specs.Prelude.{◌≡◌, ℕ, List, Option}
 use Rattle.hm_types.specs.Elements.{FullElement}
 use Rattle.hm_key.specs.Extents.{Extent}
 use Rattle.hm_key.specs.declared.element.Element.{Element}
-use Rattle.hm_cursor.specs.Told.{Lists, OnBalanced, fulls}
+use Rattle.hm_cursor.specs.Told.{OnBalanced, fulls}
 use Rattle.hm_model.specs.Call.{Call, own_id}
 use Rattle.hm_model.specs.Due.{ReadsPaths}
 use Rattle.hm_records.specs.KeysFit.{KeysFit}

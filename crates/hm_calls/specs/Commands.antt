@@ -44,10 +44,36 @@ IsOnTrees (End opening) = ⊥
 -- by how much a command may lower the room of a zone: one that gives a file other bytes by the reserve of each of the zones
 -- 8, 9, 10 and 11, any other one by those of the zones 8 and 9
 abbrev pub reserves_for : Command → ℕ → ℕ
+reserves_for (Mkdir path) = reserves
+reserves_for (Touch path) = reserves
+reserves_for (Symlink target path) = reserves
+reserves_for (Snapshot path) = reserves
+reserves_for (Ln old new) = reserves
+reserves_for (Mv old new) = reserves
 reserves_for (Write path offset bytes) = all_reserves
 reserves_for (Fill path offset count byte) = all_reserves
 reserves_for (Truncate path size) = all_reserves
-reserves_for other = reserves
+reserves_for (Rm path) = reserves
+reserves_for (Rmdir path) = reserves
+reserves_for (Ls path) = reserves
+reserves_for (Cat path offset count) = reserves
+reserves_for (Stat path) = reserves
+reserves_for (Readlink path) = reserves
+reserves_for (Prune path) = reserves
+reserves_for (PruneAll path) = reserves
+reserves_for (PfsMaster path shared) = reserves
+reserves_for (PfsSlave path shared) = reserves
+reserves_for (PfsStatus path) = reserves
+reserves_for (PfsUpgrade path) = reserves
+reserves_for (MirrorRead path begin) = reserves
+reserves_for (MirrorWrite path) = reserves
+reserves_for (MirrorCopy master slave limit) = reserves
+reserves_for Sync = reserves
+reserves_for Synctid = reserves
+reserves_for (Reblock fill) = reserves
+reserves_for Df = reserves
+reserves_for Progress = reserves
+reserves_for (End opening) = reserves
 
 -- the room of each zone falls by at most that
 abbrev pub LowersRoomFor : {S : Type 0} → Command → (S → ℕ → ℕ) → S → S → Type 0

@@ -19,3 +19,4 @@ pub mod Moves
 pub mod Systems
 pub mod NewSystems
 pub mod Prunes
+pub mod Answered

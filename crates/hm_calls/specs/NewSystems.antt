@@ -29,7 +29,7 @@ use Rattle.hm_dirs.specs.declared.spot.Spot.{Spot}
 use Rattle.hm_pfs.specs.Systems.{AddsMaster, AddsSlave, PutsMaster, PutsSlave}
 use Rattle.hm_calls.specs.Call.{IsCall, OnCalls}
 use Rattle.hm_calls.specs.Changes.{ChangesTree, HasSystem}
-use Rattle.hm_calls.specs.Due.{due_over, space_for}
+use Rattle.hm_calls.specs.Due.{due_over, refusal_over, space_for}
 use Rattle.hm_calls.specs.Known.{AreBelow}
 use Rattle.hm_calls.specs.Scenes.{IsNewPlace, full_check, new_check, slave_check, tree_at}
 use Rattle.hm_calls.specs.Writes.{Place, PutsObject}
@@ -119,6 +119,11 @@ abbrev pub IsDueTo : (List ℕ → ℕ) → ℕ → ℕ → Command → Option (
 IsDueTo hash id numbers command es xs room free reply =
     OnCalls hash id es xs (λ list call. call.command ≡ command → HasKnownNumbers numbers list call.volume → reply ≡ due_over call room free)
 
+-- each such call refuses so
+abbrev pub IsRefusedTo : (List ℕ → ℕ) → ℕ → ℕ → Command → Option (List Element) → Option (List Extent) → (ℕ → ℕ) → ℕ → Reply → Type 0
+IsRefusedTo hash id numbers command es xs room free reply =
+    OnCalls hash id es xs (λ list call. call.command ≡ command → HasKnownNumbers numbers list call.volume → refusal_over call room free ≡ Some reply)
+
 module _ {S : Type 0} (elements_of : S → Option (List Element)) (mark_of : S → Key → ℕ) (extents_of : S → Option (List Extent))
     (room_of : S → ℕ → ℕ) (free_of : S → ℕ) where
   -- a call makes a pseudo file system with this number, or is refused and leaves the store as it was
@@ -127,7 +132,7 @@ module _ {S : Type 0} (elements_of : S → Option (List Element)) (mark_of : S �
       IsDueTo hash id numbers (system_command new path shared) (elements_of old) (extents_of old) (room_of old) (free_of old) (MadePfs pfs)
       × Writes elements_of extents_of (MakesSystems hash id numbers new path shared) old now
   Founds hash id numbers new path shared old now (Err (Refused reply)) =
-      IsDueTo hash id numbers (system_command new path shared) (elements_of old) (extents_of old) (room_of old) (free_of old) reply
+      IsRefusedTo hash id numbers (system_command new path shared) (elements_of old) (extents_of old) (room_of old) (free_of old) reply
       × Same elements_of mark_of extents_of room_of free_of old now
   Founds hash id numbers new path shared old now (Err (Failed fault)) = Unit {0}
 

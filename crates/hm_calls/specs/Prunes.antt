@@ -26,7 +26,7 @@ use Rattle.hm_calls.specs.Call.{IsCall, OnCalls}
 use Rattle.hm_calls.specs.Due.{due_over}
 use Rattle.hm_calls.specs.Possible.{IsGiven}
 use Rattle.hm_calls.specs.Replies.{IsAcceptedBy, IsRefusalOf}
-use Rattle.hm_calls.specs.Stop.{OfRefusal}
+use Rattle.hm_calls.specs.Stop.{OfRefusal, TellsRefusal}
 use Rattle.hm_calls.specs.declared.pruning.Led.{Led}
 use Rattle.hm_calls.specs.declared.pruning.Opened.{Opened}
 use Rattle.hm_calls.specs.declared.pruning.Opened.TheVariants as opened
@@ -115,10 +115,20 @@ abbrev pub reply_of : Opened → Reply
 reply_of (opened.Refused reply) = reply
 reply_of (opened.Led led) = Done
 
--- such an opening may be answered so, by its words
+-- what was refused has a refusal as its reply
+abbrev pub HasRefusal : Opened → Type 0
+HasRefusal (opened.Refused reply) = TellsRefusal reply
+HasRefusal (opened.Led led) = Unit {0}
+
+-- such an opening may be refused so, by its words
+pub record IsRefusedBy (id : ℕ) (command : Command) (reply : Reply) : Type 0 where
+  pub given : IsGiven id command reply
+  pub refuses : TellsRefusal reply
+
+-- it may be answered so
 abbrev pub GivesOpening : ℕ → Command → Result Led Stop → Type 0
 GivesOpening id command (Ok led) = IsGiven id command Done
-GivesOpening id command (Err stopped) = OfRefusal (IsGiven id command) stopped
+GivesOpening id command (Err stopped) = OfRefusal (IsRefusedBy id command) stopped
 
 module _ {S : Type 0} (elements_of : S → Option (List Element)) (mark_of : S → Key → ℕ) (extents_of : S → Option (List Extent)) (room_of : S → ℕ → ℕ) (free_of : S → ℕ) where
   -- each such call by this id cut the record so

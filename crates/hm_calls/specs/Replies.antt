@@ -1,7 +1,6 @@
 -- What a call answers, and what it does to the store.
 use Rattle.std.specs.Prelude.{◌≡◌, ℕ, ◌&&◌, List, None, Some, Option, Result, Ok, Err, Bool, true, false, IsTrue, IsFalse, if◌then◌else◌, option_map}
 use Rattle.hm_types.specs.Elements.{Key}
-use Rattle.hm_types.specs.declared.fault.Fault.{Fault}
 use Rattle.hm_types.specs.declared.id.Id.{Id}
 use Rattle.hm_key.specs.Extents.{Extent}
 use Rattle.hm_key.specs.Stores.{Same}

@@ -1,11 +1,12 @@
 -- What ends a call before its end, and what it tells of a check.
-use Rattle.std.specs.Prelude.{◌≡◌, ℕ, ◌≤◌, List, Option, None, Some, Result, Ok, Err, IfErr}
+use Rattle.std.specs.Prelude.{◌≡◌, ℕ, ◌≤◌, List, Option, None, Some, Result, Ok, Err, IfErr, IsTrue}
 use Rattle.hm_types.specs.Faults.{IsCaused}
 use Rattle.hm_types.specs.declared.fault.Fault.{Fault}
 use Rattle.hm_key.specs.Extents.{Extent}
 use Rattle.hm_key.specs.declared.element.Element.{Element}
 use Rattle.hm_cursor.specs.Told.{IsPayloadDamage, OnBalanced}
 use Rattle.hm_model.specs.Due.{Check}
+use Rattle.hm_model.specs.Reply.{is_refusal}
 use Rattle.hm_model.specs.declared.reply.Reply.{Reply}
 use Rattle.hm_calls.specs.declared.stop.Stop.{Stop}
 use Rattle.hm_calls.specs.declared.stop.Stop.TheVariants.{Refused, Failed}
@@ -18,6 +19,10 @@ OfRefusal P (Failed fault) = Unit {0}
 abbrev pub OfFault : (Fault → Type 0) → Stop → Type 0
 OfFault P (Refused reply) = Unit {0}
 OfFault P (Failed fault) = P fault
+
+-- a reply refuses a call
+abbrev pub TellsRefusal : Reply → Type 0
+TellsRefusal reply = IsTrue (is_refusal reply)
 
 -- a fact of a step that was refused
 abbrev pub IfRefused : {T : Type 0} → Result T Stop → (Reply → Type 0) → Type 0

@@ -15,6 +15,7 @@ use Rattle.hm_dirs.specs.declared.position.Course.{Course}
 use Rattle.hm_dirs.specs.declared.position.Stand.{Stand}
 use Rattle.hm_calls.specs.Due.{refusal_over, space_left}
 use Rattle.hm_calls.specs.Possible.{IsOwn}
+use Rattle.hm_calls.specs.Stop.{TellsRefusal}
 
 -- these commands, each with what becomes of a link at the end of its path
 pub data IsOnSystem (word : List ℕ) : Mode → Command → Type 0 where
@@ -44,7 +45,8 @@ abbrev pub PassesEarly : ℕ → Command → Type 0
 PassesEarly id command =
     (busy : Option ℕ) (paths : List Parsed) → ReadsWords command paths → first_refusal (early_checks (id - 1) busy command paths) ≡ None
 
--- a reply is a call's own, and one that its command can give
-pub record MayGive (command : Command) (reply : Reply) : Type 0 where
+-- a reply refuses a call, is its own, and is one that its command can give
+pub record MayRefuse (command : Command) (reply : Reply) : Type 0 where
   pub own : IsOwn reply
   pub listed : (paths : List Parsed) → Contains (possible command paths) (number_of reply)
+  pub refuses : TellsRefusal reply

@@ -2,6 +2,7 @@
 //! of a store. `pfs_status` tells of a pseudo file system, and `make_system` makes one.
 #![tactic(auto)]
 
+mod answered;
 mod bytes;
 mod calls;
 mod checks;
@@ -30,6 +31,7 @@ mod systems;
 mod take;
 mod words;
 
+pub use answered::{Answered, Beside, answer_call};
 pub use calls::answer;
 pub use new_systems::{NewSystem, make_system};
 pub use prunes::open_prune;

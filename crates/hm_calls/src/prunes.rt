@@ -21,6 +21,7 @@ ghost use Rattle.hm_calls.specs.Possible.{IsGiven, IsNoSpace};
 ghost use Rattle.hm_calls.specs.Prunes.{
   GivesOpening,
   HasRecordAfter,
+  HasRefusal,
   IsPresentOf,
   IsRecordAfter,
   IsRetained,
@@ -37,7 +38,7 @@ ghost use Rattle.hm_calls.specs.Prunes.{
 ghost use Rattle.hm_calls.specs.Space.{TakesAtMost};
 ghost use Rattle.hm_calls.specs.declared.pruning.Pruning.TheVariants.{Present as present, Snapshots as snapshots};
 ghost use Rattle.hm_calls.specs.Stop.{Answers, HasStopCause, IfRefused};
-ghost use Rattle.hm_calls.specs.Systems.{ComesTo, MayGive, later_checks};
+ghost use Rattle.hm_calls.specs.Systems.{ComesTo, MayRefuse, later_checks};
 ghost use Rattle.hm_calls.specs.Writes.{reserves};
 
 use crate::kept::{keep_from, keep_listed, keep_one};
@@ -84,6 +85,7 @@ pub fn open_prune<T: ElementStore + Extents, H: NameHash>(
         (H.hash_of hash.now) id.0 pruning path.now store.old store.new) }
     ensures possible { IfOk result (λ opened.
         IsGiven id.0 (command_of pruning path.now) (reply_of opened)) }
+    ensures refused { IfOk result HasRefusal }
     ensures known { OnOk result ((i : ℕ) → AreKnown (T.elements store.old) (T.extents store.old) i →
         AreKnown (T.elements store.new) (T.extents store.new) i) }
     ensures keeps { Keeps T.elements T.extents store.old store.new result }
@@ -147,7 +149,7 @@ fn record_after<T: ElementStore + Extents>(
         (λ lists. IsRetainedIn stand.now.at.pfs.0 to (fulls lists))) }
     ensures few { IfOk result (λ to. IfSome to (λ (r : Told). IsRetention r.retention)) }
     ensures gives { (word : List ℕ) →
-        IfRefused result (MayGive (command_of pruning word)) }
+        IfRefused result (MayRefuse (command_of pruning word)) }
     ensures keeps { Same T.elements T.mark T.extents T.room T.free store.old store.new }
     ensures borrowed { (T.name store.new ≡ T.name store.old)
         × (T.frame store.new ≡ T.frame store.old) }
@@ -180,7 +182,7 @@ fn name_kept<T: ElementStore + Extents>(
     ensures retained { IfOk result (λ to. OnBalanced (T.elements store.old) (T.extents store.old)
         (λ lists. IsRetained directory.now.at.pfs.0 to (fulls lists))) }
     ensures few { IfOk result (λ r. IsRetention r.retention) }
-    ensures gives { (word : List ℕ) → IfRefused result (MayGive (prune word)) }
+    ensures gives { (word : List ℕ) → IfRefused result (MayRefuse (prune word)) }
     ensures keeps { Same T.elements T.mark T.extents T.room T.free store.old store.new }
     ensures borrowed { (T.name store.new ≡ T.name store.old)
         × (T.frame store.new ≡ T.frame store.old) }

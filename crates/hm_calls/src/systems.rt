@@ -12,7 +12,7 @@ ghost use Rattle.hm_calls.specs.Call.{OnCalls};
 ghost use Rattle.hm_calls.specs.Due.{due_over};
 ghost use Rattle.hm_calls.specs.Possible.{Gives, IsGiven};
 ghost use Rattle.hm_calls.specs.Replies.{IsRefusalOf, Looks};
-ghost use Rattle.hm_calls.specs.Stop.{HasStopCause, IfRefused};
+ghost use Rattle.hm_calls.specs.Stop.{HasStopCause, IfRefused, TellsRefusal};
 ghost use Rattle.hm_calls.specs.Systems.{ComesTo, IsOnSystem, PassesEarly};
 
 use crate::course::course_before;
@@ -46,6 +46,7 @@ pub(crate) fn reach_system<T: ElementStore + Extents, H: NameHash>(
         (T.elements store.old) (T.extents store.old) (T.room store.old) (T.free store.old)) }
     ensures gives { (command : Command) → IsOnSystem word.now (mode_of follow) command →
         IfRefused result (IsGiven id.0 command) }
+    ensures refuses { IfRefused result TellsRefusal }
     ensures early { (command : Command) → IsOnSystem word.now (mode_of follow) command →
         OnOk result (PassesEarly id.0 command) }
     ensures keeps { Same T.elements T.mark T.extents T.room T.free store.old store.new }

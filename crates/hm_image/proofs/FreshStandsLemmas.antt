@@ -1,12 +1,14 @@
 -- A fresh volume stands for the volume as it is made.
-use Rattle.std.proofs.Common.{◌≡◌, inl, inr, ℕ, ◌^◌, ◌≤◌, Bool, List, [], ◌∷◌, None, Some, true, false, eqb, refl, sym, ap, subst, ◌∙◌, arith}
+use Rattle.std.proofs.Common.{◌≡◌, inl, inr, ℕ, ◌^◌, ◌<◌, ◌≤◌, Bool, List, [], ◌∷◌, None, Some, true, false, eqb, refl, sym, ap, subst, ◌∙◌, arith}
 use Rattle.std.specs.Prelude.{if◌then◌else◌}
-use Rattle.std.specs.List.{Contains}
+use Rattle.std.specs.List.{Contains, IsDistinct}
 use Rattle.std.proofs.lemmas.Bool.{eqb-true}
+use Rattle.std.proofs.lemmas.Map.Keys.{IsDistinct-from_apart}
 use Rattle.hm_types.specs.Elements.{FullElement, Key}
 use Rattle.hm_types.specs.Intervals.{Keeps, open_end}
 use Rattle.hm_types.specs.Tree.{directory_of, root_number, root_tree}
 use Rattle.hm_types.specs.declared.object.Object.{Object}
+use Rattle.hm_types.specs.declared.limits.TheConstants.{MOST_PFS}
 use Rattle.hm_header.specs.Range.{IsSize}
 use Rattle.hm_key.specs.Element.{pfs_of}
 use Rattle.hm_model.specs.Volume.{Nowhere, PseudoFileSystem, Slave, at, fresh, new_master, system_of}
@@ -143,6 +145,10 @@ module _ (bigblocks : ℕ) where
     follows = follows;
   }
 
+  -- one number is apart from all others
+  alone : IsDistinct eqb (0 ∷ [])
+  alone = IsDistinct-from_apart eqb (0 ∷ []) (λ i j d before within. absurd (omega (arith, before, within)))
+
   stand : StandFor full_elements (fresh bigblocks)
   stand = record {
     keys = keys;
@@ -152,6 +158,7 @@ module _ (bigblocks : ℕ) where
     records = records bigblocks;
     drawn = omega arith;
     own = all_one (λ s. system_of (fresh bigblocks) s.number ≡ Some s) system refl;
+    numbers = record { apart = alone; few = all_one (λ (s : PseudoFileSystem). s.number < MOST_PFS) system (omega arith) };
     of_systems = of_systems bigblocks;
     ids = on_system bigblocks (HasIds full_elements 1) ids;
     begun = on_system bigblocks (λ pfs s. AreBegun s) (all_one (λ v. 1 ≤ v.0) (1, root_tree) (omega arith));

@@ -1,11 +1,11 @@
 -- Which volume a list of elements stands for.
-use Rattle.std.specs.Prelude.{◌≡◌, ℕ, ◌^◌, ◌<◌, ◌≤◌, true, List, Some}
-use Rattle.std.specs.List.{All, Contains}
+use Rattle.std.specs.Prelude.{◌≡◌, ℕ, ◌^◌, ◌<◌, ◌≤◌, eqb, true, List, Some, map}
+use Rattle.std.specs.List.{All, Contains, IsDistinct}
 use Rattle.hm_types.specs.Elements.{FullElement}
 use Rattle.hm_types.specs.Hash.{name_hash}
 use Rattle.hm_types.specs.Intervals.{Keeps, open_end}
 use Rattle.hm_types.specs.Tree.{FileTree}
-use Rattle.hm_types.specs.declared.limits.TheConstants.{GREATEST_ID}
+use Rattle.hm_types.specs.declared.limits.TheConstants.{GREATEST_ID, MOST_PFS}
 use Rattle.hm_types.specs.declared.object.Object.{Object}
 use Rattle.hm_key.specs.Counts.{record_subject, subject_of}
 use Rattle.hm_key.specs.Element.{pfs_of}
@@ -65,6 +65,11 @@ pub record IsSourceless (es : List FullElement) (pfs : ℕ) (s : PseudoFileSyste
   pub unsynced : s.sync_end ≡ 0
   pub alone : (e : FullElement) → Contains es e → pfs_of e.key.localization ≡ pfs → subject_of e.key ≡ record_subject pfs
 
+-- no two of these PFS have one number, and each number is one that there may be
+pub record HaveNumbers (systems : List PseudoFileSystem) : Type 0 where
+  pub apart : IsDistinct eqb (map (λ (s : PseudoFileSystem). s.number) systems)
+  pub few : All (λ (s : PseudoFileSystem). s.number < MOST_PFS) systems
+
 -- Elements stand for a volume: those that its tree holds, with their payloads.
 pub record StandFor (es : List FullElement) (volume : Volume) : Type 0 where
   pub keys : HaveOwnKeys es
@@ -74,6 +79,7 @@ pub record StandFor (es : List FullElement) (volume : Volume) : Type 0 where
   pub records : HaveRecords es volume
   pub drawn : volume.last ≤ GREATEST_ID
   pub own : All (λ s. system_of volume s.number ≡ Some s) volume.systems
+  pub numbers : HaveNumbers volume.systems
   pub of_systems : AreOfSystems es volume
   pub ids : OnEach volume (HasIds es volume.last)
   pub begun : OnEach volume (λ pfs s. AreBegun s)

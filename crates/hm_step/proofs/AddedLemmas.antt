@@ -9,9 +9,10 @@ use Rattle.std.proofs.lemmas.Bool.Decides.{nat_tests}
 use Rattle.std.proofs.lemmas.List.Elements.{All-contains, All-nil, All-push}
 use Rattle.hm_types.specs.Elements.{FullElement, Key}
 use Rattle.hm_types.specs.Hash.{name_hash}
+use Rattle.hm_types.specs.declared.limits.TheConstants.{MOST_PFS}
 use Rattle.hm_types.specs.Tree.{FileTree, directory_of, no_tree, root_number, root_tree}
 use Rattle.hm_types.specs.declared.object.Object.{Object}
-use Rattle.hm_key.specs.Counts.{Subject, record_subject, subject_of}
+use Rattle.hm_key.specs.Counts.{Subject, subject_of}
 use Rattle.hm_key.specs.Element.{pfs_of}
 use Rattle.hm_key.specs.Versions.{HaveOwnKeys, IsBelow}
 use Rattle.hm_key.specs.declared.rec_type.TheConstants.{DIRECTORY_ENTRY}
@@ -32,12 +33,13 @@ use Rattle.hm_volume.specs.Records.{AreOfSystems, HasRecord, HaveRecords, IsReco
 use Rattle.hm_objects.specs.Objects.{inode_of}
 use Rattle.hm_objects.proofs.ShownLemmas.{directory_inode}
 use Rattle.hm_pfs.specs.Systems.{AddsMaster, AddsSlave, AddsSystem, IsUnusedNumber, made_record, made_root, master_record, slave_record}
-use Rattle.hm_image.specs.StandFor.{AreAtMost, AreBegun, AreUpTo, HasIds, HasViews, IsSourceless, OnEach, StandFor}
+use Rattle.hm_image.specs.StandFor.{AreAtMost, AreBegun, AreUpTo, HasIds, HasViews, HaveNumbers, IsSourceless, OnEach, StandFor}
 use Rattle.hm_image.proofs.FollowLemmas.{follows_one, follows_where, inodes_named, of_no_record, of_place, others_named}
 use Rattle.hm_image.proofs.ListLemmas.{all_one, only_one}
 use Rattle.hm_step.specs.Pruned.{HasSystemFor, IsEnough, StandAfter, StillKeeps}
 use Rattle.hm_step.proofs.JobLemmas.{system_for}
 use Rattle.hm_step.proofs.NextLemmas.{system_at}
+use Rattle.hm_step.proofs.SystemNumberLemmas.{numbers_more}
 
 -- ---- the new elements
 
@@ -155,6 +157,20 @@ number_is_unused es volume pfs stand none x has of_pfs =
     let there : system_of volume pfs ≡ Some s = subst (λ (n : ℕ). system_of volume n ≡ Some s) of_pfs is in
     absurd (cc)
 
+-- what jobs keep is of other numbers
+pub more_keeps : (volume : Volume) (pfs : ℕ) (new : PseudoFileSystem) → system_of volume pfs ≡ None → new.number ≡ pfs
+    → StillKeeps volume (with_system volume new)
+more_keeps volume pfs new none number kept enough = record {
+  within = on_added volume pfs new none number (λ other s. IsEnough (kept other) s.retention) enough.within
+      (by (kept pfs) (enough.of_systems pfs));
+  of_systems = λ other.
+      system_for volume (with_system volume new) other (kept other) (λ s is. (s, found_still volume pfs new none number other s is))
+      (enough.of_systems other);
+} where
+  by : (o : Option (List (ℕ × ℕ))) → HasSystemFor volume pfs o → IsEnough o new.retention
+  by None there = tt
+  by (Some ids) there = λ t keeps. inr (λ u has. let (s, is) = there u has in absurd (is_another volume pfs new none number pfs s is refl))
+
 -- what a new PFS shows, and its ids
 pub record IsNewSystem (last pfs i : ℕ) (tree : FileTree) (r : PfsRecord) (es' : List FullElement) (new : PseudoFileSystem) : Type 0 where
   pub number : new.number ≡ pfs
@@ -217,7 +233,7 @@ module _ (es es' : List FullElement) (volume : Volume) (pfs i : ℕ) (r : PfsRec
     | inr old ↦ old
   ])
 
-  module _ (new : PseudoFileSystem) (drawn : i ≤ volume.last) (is_new : IsNewSystem volume.last pfs i tree r es' new) where
+  module _ (new : PseudoFileSystem) (drawn : i ≤ volume.last) (few : pfs < MOST_PFS) (is_new : IsNewSystem volume.last pfs i tree r es' new) where
     abbrev after : Volume
     after = with_system volume new
 
@@ -313,6 +329,11 @@ module _ (es es' : List FullElement) (volume : Volume) (pfs i : ℕ) (r : PfsRec
         (All-from_has (λ s. system_of after s.number ≡ Some s) volume.systems own_still)
         (subst (λ (n : ℕ). system_of after n ≡ Some new) (sym number) (found_added volume pfs new none number))
 
+    numbers : HaveNumbers after.systems
+    numbers =
+        numbers_more volume new (subst (λ (n : ℕ). system_of volume n ≡ None) (sym number) none)
+        (subst (λ (n : ℕ). n < MOST_PFS) (sym number) few) stand.numbers
+
     -- ---- ids and views
 
     ids_still : OnEach volume (HasIds es' volume.last)
@@ -383,6 +404,7 @@ module _ (es es' : List FullElement) (volume : Volume) (pfs i : ℕ) (r : PfsRec
       records = records;
       drawn = stand.drawn;
       own = own;
+      numbers = numbers;
       of_systems = of_systems;
       ids = on_added volume pfs new none number (HasIds es' volume.last) ids_still ids_new;
       begun = on_added volume pfs new none number (λ other s. AreBegun s) stand.begun is_new.begun;
@@ -391,20 +413,8 @@ module _ (es es' : List FullElement) (volume : Volume) (pfs i : ℕ) (r : PfsRec
           (λ slave nowhere. is_new.unfed slave);
     }
 
-    -- what jobs keep is of other numbers
-    jobs_added : StillKeeps volume after
-    jobs_added kept enough = record {
-      within = on_added volume pfs new none number (λ other s. IsEnough (kept other) s.retention) enough.within
-          (by (kept pfs) (enough.of_systems pfs));
-      of_systems = λ other.
-          system_for volume after other (kept other) (λ s is. (s, found_still volume pfs new none number other s is)) (enough.of_systems other);
-    } where
-      by : (o : Option (List (ℕ × ℕ))) → HasSystemFor volume pfs o → IsEnough o new.retention
-      by None there = tt
-      by (Some ids) there = λ t keeps. inr (λ u has. let (s, is) = there u has in absurd (is_another volume pfs new none number pfs s is refl))
-
     after_added : StandAfter volume es' after
-    after_added = record { stand = stand_added; jobs = jobs_added }
+    after_added = record { stand = stand_added; jobs = more_keeps volume pfs new none number }
 
 -- ---- a master, and a slave
 
@@ -481,12 +491,12 @@ module _ (last pfs shared i : ℕ) (es' : List FullElement) (small : shared < 2 
   }
 
 module _ (es es' : List FullElement) (volume : Volume) (pfs shared i : ℕ) (stand : StandFor es volume) (none : system_of volume pfs ≡ None) where
-  pub master_stands : shared < 2 ^ 64 → 1 ≤ i → i ≤ volume.last → AddsMaster pfs shared i es es'
+  pub master_stands : shared < 2 ^ 64 → pfs < MOST_PFS → 1 ≤ i → i ≤ volume.last → AddsMaster pfs shared i es es'
       → StandAfter volume es' (with_system volume (new_master pfs shared ((i, root_tree) ∷ [])))
-  master_stands small some drawn adds =
+  master_stands small few some drawn adds =
       after_added es es' volume pfs i (master_record shared) root_tree
       (λ x. (x ≡ made_root pfs i) ⊎ (x ≡ made_record pfs (master_record shared) i)) stand none (λ x is. is) adds
-      (new_master pfs shared ((i, root_tree) ∷ [])) drawn (is_master volume.last pfs shared i es' small some drawn)
+      (new_master pfs shared ((i, root_tree) ∷ [])) drawn few (is_master volume.last pfs shared i es' small some drawn)
 
   pub slave_is_alone : AddsSlave pfs shared i es es' → (x : FullElement) → Contains es' x → pfs_of x.key.localization ≡ pfs
       → x ≡ made_record pfs (slave_record shared) i
@@ -495,8 +505,8 @@ module _ (es es' : List FullElement) (volume : Volume) (pfs shared i : ℕ) (sta
     | inr old ↦ absurd (number_is_unused es volume pfs stand none x old of_pfs)
   ]
 
-  pub slave_stands : shared < 2 ^ 64 → i ≤ volume.last → AddsSlave pfs shared i es es'
+  pub slave_stands : shared < 2 ^ 64 → pfs < MOST_PFS → i ≤ volume.last → AddsSlave pfs shared i es es'
       → StandAfter volume es' (with_system volume (new_slave pfs shared))
-  slave_stands small drawn adds =
+  slave_stands small few drawn adds =
       after_added es es' volume pfs i (slave_record shared) no_tree (λ x. x ≡ made_record pfs (slave_record shared) i) stand none
-      (λ x is. inr is) adds (new_slave pfs shared) drawn (is_slave volume.last pfs shared i es' small (slave_is_alone adds))
+      (λ x is. inr is) adds (new_slave pfs shared) drawn few (is_slave volume.last pfs shared i es' small (slave_is_alone adds))

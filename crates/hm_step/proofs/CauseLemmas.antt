@@ -7,11 +7,11 @@ use Rattle.hm_model.specs.Caused.{Counts, HasCause, HasNumbers, IsCutAt, IsPossi
 use Rattle.hm_model.specs.Due.{early_checks, first_refusal, none_open}
 use Rattle.hm_model.specs.Reply.{passed_ids}
 use Rattle.hm_model.specs.declared.command.Command.{Command}
-use Rattle.hm_model.specs.declared.command.Command.TheVariants.{Cat, Fill, Ln, Ls, Mkdir, Mv, Readlink, Rm, Rmdir, Snapshot, Stat, Symlink, Touch, Truncate, Write}
+use Rattle.hm_model.specs.declared.command.Command.TheVariants.{Cat, Fill, Ln, Ls, Mkdir, Mv, Readlink, Rm, Rmdir, Snapshot, Stat, Symlink, Touch, Truncate, Write, PfsMaster, PfsSlave, PfsStatus, Prune, PruneAll}
 use Rattle.hm_model.specs.declared.entry.Entry.{Entry}
 use Rattle.hm_model.specs.declared.reply.Reply.{Reply}
 use Rattle.hm_model.specs.declared.reply.Reply.TheVariants.{Cut, Media, StreamFault, Synced}
-use Rattle.hm_calls.specs.Commands.{IsOnTrees}
+use Rattle.hm_calls.specs.Answered.{IsAnswerable}
 use Rattle.hm_calls.specs.Possible.{MayReply}
 use Rattle.hm_step.specs.Causes.{IsNextOf, TellsFault}
 use Rattle.hm_step.proofs.EarlyLemmas.{may_plain}
@@ -20,23 +20,28 @@ use Rattle.hm_step.proofs.GivenLemmas.{IsPlain, fault_possible}
 use Rattle.hm_step.proofs.HistoryLemmas.{plain_tells}
 
 -- such a call minds no open pass
-pub served_mind_none : (busy : Option ℕ) (command : Command) → IsOnTrees command → none_open busy command ≡ None
-served_mind_none busy (Mkdir path) of_trees = refl
-served_mind_none busy (Touch path) of_trees = refl
-served_mind_none busy (Symlink target path) of_trees = refl
-served_mind_none busy (Snapshot path) of_trees = refl
-served_mind_none busy (Ln old new) of_trees = refl
-served_mind_none busy (Mv old new) of_trees = refl
-served_mind_none busy (Write path offset bytes) of_trees = refl
-served_mind_none busy (Fill path offset count byte) of_trees = refl
-served_mind_none busy (Truncate path size) of_trees = refl
-served_mind_none busy (Rm path) of_trees = refl
-served_mind_none busy (Rmdir path) of_trees = refl
-served_mind_none busy (Ls path) of_trees = refl
-served_mind_none busy (Cat path offset count) of_trees = refl
-served_mind_none busy (Stat path) of_trees = refl
-served_mind_none busy (Readlink path) of_trees = refl
-served_mind_none busy other of_trees = absurd of_trees
+pub served_mind_none : (busy : Option ℕ) (command : Command) → IsAnswerable command → none_open busy command ≡ None
+served_mind_none busy (Mkdir path) answers = refl
+served_mind_none busy (Touch path) answers = refl
+served_mind_none busy (Symlink target path) answers = refl
+served_mind_none busy (Snapshot path) answers = refl
+served_mind_none busy (Ln old new) answers = refl
+served_mind_none busy (Mv old new) answers = refl
+served_mind_none busy (Write path offset bytes) answers = refl
+served_mind_none busy (Fill path offset count byte) answers = refl
+served_mind_none busy (Truncate path size) answers = refl
+served_mind_none busy (Rm path) answers = refl
+served_mind_none busy (Rmdir path) answers = refl
+served_mind_none busy (Ls path) answers = refl
+served_mind_none busy (Cat path offset count) answers = refl
+served_mind_none busy (Stat path) answers = refl
+served_mind_none busy (Readlink path) answers = refl
+served_mind_none busy (Prune path) answers = refl
+served_mind_none busy (PruneAll path) answers = refl
+served_mind_none busy (PfsMaster path shared) answers = refl
+served_mind_none busy (PfsSlave path shared) answers = refl
+served_mind_none busy (PfsStatus path) answers = refl
+served_mind_none busy other answers = absurd answers
 
 -- a plain reply has no numbers of its own
 pub plain_numbers : (now : Counts) (known : Known) (e : Entry) → IsPlain e.reply → HasNumbers now known e

@@ -14,17 +14,17 @@ use Rattle.hm_model.specs.Caused.{IsPossible, on_a_file, on_a_read, possible}
 use Rattle.hm_model.specs.Due.{Check, a_file, no_dir, checks, is_dir, is_dir_or_link, is_kind, is_link, is_passed, is_softlink, name_is_new, early_checks, first_refusal, has_id, fits_file, hash_is_full, hash_left, good_paths, ids_left, intervals_left, no_future, no_future_begin, none_open, is_in_slave, is_pfs_call, is_tree_call, is_way_free, new_name, new_pfs, pruned_count, own_checks, own_checks_of, past_stays, refusal, refuse_if, slaves_stay, walks}
 use Rattle.hm_model.specs.Needs.{bytes_zones, held_of, has_other_link, has_other_size, names_zones, stays_put, zones_of}
 use Rattle.hm_model.specs.Sites.{Parsed, Site, TakesName, Walks, uses_of}
-use Rattle.hm_model.specs.Walk.{Follow, Follows, Stays}
+use Rattle.hm_model.specs.Walk.{Follow, Follows, Stays, TakesPfs}
 use Rattle.hm_model.specs.declared.command.Command.{Command}
 use Rattle.hm_model.specs.declared.command.Command.TheVariants.{Cat, Fill, Prune, PruneAll, PfsMaster, PfsSlave, PfsStatus, Truncate, Write, Ln, Ls, Mkdir, Mv, Readlink, Rm, Rmdir, Snapshot, Stat, Symlink, Touch}
 use Rattle.hm_model.specs.declared.reply.Reply.{Reply}
-use Rattle.hm_model.specs.declared.reply.Reply.TheVariants.{Content as Bytes, Done, Listing, MadePfs, Status, Target as Text, TooManyIntervals, CrossPfs, Exists, HashFull, IntoItself, IsDir, NotEmpty, NotFile, NotLink, TooBig, NoSpace, NotDir, NotFound, NotRetained, ReadOnly}
+use Rattle.hm_model.specs.declared.reply.Reply.TheVariants.{Content as Bytes, Done, Listing, MadePfs, NoSnapshots, PfsFull, Status, Target as Text, TooManyIntervals, CrossPfs, Exists, HashFull, IntoItself, IsDir, NotEmpty, NotFile, NotLink, TooBig, NoSpace, NotDir, NotFound, NotRetained, ReadOnly}
 use Rattle.std.proofs.lemmas.Bool.Decides.{nat_tests}
 use Rattle.hm_model.proofs.CheckLemmas.{no_first, no_rest}
 use Rattle.hm_model.proofs.DueLemmas.{of_option}
 use Rattle.hm_records.proofs.MemberLemmas.{has_tail}
 use Rattle.hm_calls.specs.Due.{due_over, lacking}
-use Rattle.hm_calls.specs.Commands.{IsOnTrees}
+use Rattle.hm_calls.specs.Answered.{IsAnswerable}
 use Rattle.hm_calls.proofs.GivenLemmas.{behind_cat, behind_file, behind_link, dir_in_walk, file_accepted, file_lacks, in_read, kept_in_read, lost_in_walk, too_large}
 use Rattle.hm_step.proofs.PossibleLemmas.{OfAll, OfCheck, all_fine, first_of_all, none_fine, walks_fine}
 use Rattle.hm_step.proofs.ReplyLemmas.{Way, first_front, lacks, refused, serves, way}
@@ -90,12 +90,12 @@ module _ (call : Call) where
     by true is = (given 10 (too_large end is), tt)
     by false is = tt
 
-  rest : (command : Command) (paths : List Parsed) (a b : Site) → IsOnTrees command → Rest command paths a b
-  rest (Mkdir path) paths a b of_trees = (name_check (Mkdir path) paths a ((1, omega arith, refl), tt), tt)
-  rest (Touch path) paths a b of_trees = (name_check (Touch path) paths a ((1, omega arith, refl), tt), tt)
-  rest (Symlink target path) paths a b of_trees = (name_check (Symlink target path) paths a ((1, omega arith, refl), tt), tt)
-  rest (Snapshot path) paths a b of_trees = (name_check (Snapshot path) paths a ((1, omega arith, refl), tt), tt)
-  rest (Ln old new) paths a b of_trees =
+  rest : (command : Command) (paths : List Parsed) (a b : Site) → IsAnswerable command → Rest command paths a b
+  rest (Mkdir path) paths a b answers = (name_check (Mkdir path) paths a ((1, omega arith, refl), tt), tt)
+  rest (Touch path) paths a b answers = (name_check (Touch path) paths a ((1, omega arith, refl), tt), tt)
+  rest (Symlink target path) paths a b answers = (name_check (Symlink target path) paths a ((1, omega arith, refl), tt), tt)
+  rest (Snapshot path) paths a b answers = (name_check (Snapshot path) paths a ((1, omega arith, refl), tt), tt)
+  rest (Ln old new) paths a b answers =
       let P : Reply → Type 0 = MayGive (Ln old new) paths in (
         by_test P (is_kind is_dir_or_link call a) IsDir ((1, omega arith, refl), tt),
         (
@@ -109,7 +109,7 @@ module _ (call : Call) where
           ),
         ),
       )
-  rest (Mv old new) paths a b of_trees =
+  rest (Mv old new) paths a b answers =
       let P : Reply → Type 0 = MayGive (Mv old new) paths in (
         unless_test P ((first_site call).at.pfs == (second_site call).at.pfs) CrossPfs ((1, omega arith, refl), tt),
         (
@@ -121,80 +121,104 @@ module _ (call : Call) where
           ),
         ),
       )
-  rest (Write path offset bytes) paths a b of_trees = file_checks (Write path offset bytes) paths a (offset + length bytes) refl
-  rest (Fill path offset count byte) paths a b of_trees = file_checks (Fill path offset count byte) paths a (offset + count) refl
-  rest (Truncate path size) paths a b of_trees = file_checks (Truncate path size) paths a size refl
-  rest (Rm path) paths a b of_trees = (by_test (MayGive (Rm path) paths) (is_kind is_dir_or_link call a) IsDir ((1, omega arith, refl), tt), tt)
-  rest (Rmdir path) paths a b of_trees =
+  rest (Write path offset bytes) paths a b answers = file_checks (Write path offset bytes) paths a (offset + length bytes) refl
+  rest (Fill path offset count byte) paths a b answers = file_checks (Fill path offset count byte) paths a (offset + count) refl
+  rest (Truncate path size) paths a b answers = file_checks (Truncate path size) paths a size refl
+  rest (Rm path) paths a b answers = (by_test (MayGive (Rm path) paths) (is_kind is_dir_or_link call a) IsDir ((1, omega arith, refl), tt), tt)
+  rest (Rmdir path) paths a b answers =
       let P : Reply → Type 0 = MayGive (Rmdir path) paths in
       (unless_test P (is_kind is_dir call a) NotDir ((4, omega arith, refl), tt), (by_test P _ NotEmpty ((1, omega arith, refl), tt), tt))
-  rest (Ls path) paths a b of_trees =
+  rest (Ls path) paths a b answers =
       (unless_test (MayGive (Ls path) paths) (is_kind is_dir call a) NotDir (has_tail 102 3 (on_a_read paths) (in_read paths 3 dir_in_walk), tt), tt)
-  rest (Cat path offset count) paths a b of_trees =
+  rest (Cat path offset count) paths a b answers =
       let P : Reply → Type 0 = MayGive (Cat path offset count) paths in (
         by_test P (is_kind is_dir_or_link call a) IsDir ((1, omega arith, refl), tt),
         (by_test P (is_kind is_softlink call a) NotFile ((2, omega arith, refl), tt), tt),
       )
-  rest (Stat path) paths a b of_trees = tt
-  rest (Readlink path) paths a b of_trees = (unless_test (MayGive (Readlink path) paths) (is_kind is_link call a) NotLink ((1, omega arith, refl), tt), tt)
-  rest other paths a b of_trees = absurd of_trees
+  rest (Stat path) paths a b answers = tt
+  rest (Readlink path) paths a b answers = (unless_test (MayGive (Readlink path) paths) (is_kind is_link call a) NotLink ((1, omega arith, refl), tt), tt)
+  rest (Prune path) paths a b answers =
+      let P : Reply → Type 0 = MayGive (Prune path) paths in
+      (unless_test P (is_kind is_dir call a) NotDir ((5, omega arith, refl), tt), (by_test P _ NoSnapshots ((1, omega arith, refl), tt), tt))
+  rest (PruneAll path) paths a b answers = tt
+  rest (PfsMaster path shared) paths a b answers =
+      let P : Reply → Type 0 = MayGive (PfsMaster path shared) paths in
+      (name_check (PfsMaster path shared) paths a ((2, omega arith, refl), tt), (by_test P _ PfsFull ((1, omega arith, refl), tt), tt))
+  rest (PfsSlave path shared) paths a b answers =
+      let P : Reply → Type 0 = MayGive (PfsSlave path shared) paths in
+      (name_check (PfsSlave path shared) paths a ((2, omega arith, refl), tt), (by_test P _ PfsFull ((1, omega arith, refl), tt), tt))
+  rest (PfsStatus path) paths a b answers = tt
+  rest other paths a b answers = absurd answers
 
   -- ---- all checks behind the early ones
 
-  walks_give : (command : Command) (paths : List Parsed) → IsOnTrees command → (is_tree_call command ≡ true → list_any has_id paths ≡ false)
+  walks_give : (command : Command) (paths : List Parsed) → IsAnswerable command
+      → ((is_tree_call command || is_pfs_call command) ≡ true → list_any has_id paths ≡ false)
       → OfAll (MayGive command paths) (map walks (each_located call (uses_of command) paths))
-  walks_give (Mkdir path) paths of_trees no_id = tree_walks (Mkdir path) paths (no_id refl) ((5, omega arith, refl), tt) ((6, omega arith, refl), tt)
-  walks_give (Touch path) paths of_trees no_id = tree_walks (Touch path) paths (no_id refl) ((5, omega arith, refl), tt) ((6, omega arith, refl), tt)
-  walks_give (Symlink target path) paths of_trees no_id =
+  walks_give (Mkdir path) paths answers no_id = tree_walks (Mkdir path) paths (no_id refl) ((5, omega arith, refl), tt) ((6, omega arith, refl), tt)
+  walks_give (Touch path) paths answers no_id = tree_walks (Touch path) paths (no_id refl) ((5, omega arith, refl), tt) ((6, omega arith, refl), tt)
+  walks_give (Symlink target path) paths answers no_id =
       tree_walks (Symlink target path) paths (no_id refl) ((5, omega arith, refl), tt) ((6, omega arith, refl), tt)
-  walks_give (Snapshot path) paths of_trees no_id = tree_walks (Snapshot path) paths (no_id refl) ((5, omega arith, refl), tt) ((6, omega arith, refl), tt)
-  walks_give (Ln old new) paths of_trees no_id = tree_walks (Ln old new) paths (no_id refl) ((9, omega arith, refl), tt) ((10, omega arith, refl), tt)
-  walks_give (Mv old new) paths of_trees no_id = tree_walks (Mv old new) paths (no_id refl) ((7, omega arith, refl), tt) ((8, omega arith, refl), tt)
-  walks_give (Write path offset bytes) paths of_trees no_id =
+  walks_give (Snapshot path) paths answers no_id = tree_walks (Snapshot path) paths (no_id refl) ((5, omega arith, refl), tt) ((6, omega arith, refl), tt)
+  walks_give (Ln old new) paths answers no_id = tree_walks (Ln old new) paths (no_id refl) ((9, omega arith, refl), tt) ((10, omega arith, refl), tt)
+  walks_give (Mv old new) paths answers no_id = tree_walks (Mv old new) paths (no_id refl) ((7, omega arith, refl), tt) ((8, omega arith, refl), tt)
+  walks_give (Write path offset bytes) paths answers no_id =
       tree_walks (Write path offset bytes) paths (no_id refl) (behind_file (offset + length bytes) 2 (1, omega arith, refl), tt)
       (behind_file (offset + length bytes) 3 (2, omega arith, refl), tt)
-  walks_give (Fill path offset count byte) paths of_trees no_id =
+  walks_give (Fill path offset count byte) paths answers no_id =
       tree_walks (Fill path offset count byte) paths (no_id refl) (behind_file (offset + count) 2 (1, omega arith, refl), tt)
       (behind_file (offset + count) 3 (2, omega arith, refl), tt)
-  walks_give (Truncate path size) paths of_trees no_id =
+  walks_give (Truncate path size) paths answers no_id =
       tree_walks (Truncate path size) paths (no_id refl) (behind_file size 2 (1, omega arith, refl), tt) (behind_file size 3 (2, omega arith, refl), tt)
-  walks_give (Rm path) paths of_trees no_id = tree_walks (Rm path) paths (no_id refl) ((4, omega arith, refl), tt) ((5, omega arith, refl), tt)
-  walks_give (Rmdir path) paths of_trees no_id = tree_walks (Rmdir path) paths (no_id refl) ((3, omega arith, refl), tt) ((4, omega arith, refl), tt)
-  walks_give (Ls path) paths of_trees no_id =
+  walks_give (Rm path) paths answers no_id = tree_walks (Rm path) paths (no_id refl) ((4, omega arith, refl), tt) ((5, omega arith, refl), tt)
+  walks_give (Rmdir path) paths answers no_id = tree_walks (Rmdir path) paths (no_id refl) ((3, omega arith, refl), tt) ((4, omega arith, refl), tt)
+  walks_give (Ls path) paths answers no_id =
       read_walks (Ls path) paths (has_tail 102 2 (on_a_read paths) (in_read paths 2 lost_in_walk), tt)
       (has_tail 102 3 (on_a_read paths) (in_read paths 3 dir_in_walk), tt) (λ has. (has_tail 102 8 (on_a_read paths) (kept_in_read paths has), tt))
-  walks_give (Cat path offset count) paths of_trees no_id =
+  walks_give (Cat path offset count) paths answers no_id =
       read_walks (Cat path offset count) paths (behind_cat paths 2 (in_read paths 2 lost_in_walk), tt)
       (behind_cat paths 3 (in_read paths 3 dir_in_walk), tt) (λ has. (behind_cat paths 8 (kept_in_read paths has), tt))
-  walks_give (Stat path) paths of_trees no_id =
+  walks_give (Stat path) paths answers no_id =
       read_walks (Stat path) paths (has_tail 104 2 (on_a_read paths) (in_read paths 2 lost_in_walk), tt)
       (has_tail 104 3 (on_a_read paths) (in_read paths 3 dir_in_walk), tt) (λ has. (has_tail 104 8 (on_a_read paths) (kept_in_read paths has), tt))
-  walks_give (Readlink path) paths of_trees no_id =
+  walks_give (Readlink path) paths answers no_id =
       read_walks (Readlink path) paths (behind_link paths 2 (in_read paths 2 lost_in_walk), tt) (behind_link paths 3 (in_read paths 3 dir_in_walk), tt)
       (λ has. (behind_link paths 8 (kept_in_read paths has), tt))
-  walks_give other paths of_trees no_id = absurd of_trees
+  walks_give (Prune path) paths answers no_id = tree_walks (Prune path) paths (no_id refl) ((4, omega arith, refl), tt) ((5, omega arith, refl), tt)
+  walks_give (PruneAll path) paths answers no_id = tree_walks (PruneAll path) paths (no_id refl) ((2, omega arith, refl), tt) ((3, omega arith, refl), tt)
+  walks_give (PfsMaster path shared) paths answers no_id =
+      tree_walks (PfsMaster path shared) paths (no_id refl) ((6, omega arith, refl), tt) ((7, omega arith, refl), tt)
+  walks_give (PfsSlave path shared) paths answers no_id =
+      tree_walks (PfsSlave path shared) paths (no_id refl) ((6, omega arith, refl), tt) ((7, omega arith, refl), tt)
+  walks_give (PfsStatus path) paths answers no_id = tree_walks (PfsStatus path) paths (no_id refl) ((1, omega arith, refl), tt) ((2, omega arith, refl), tt)
+  walks_give other paths answers no_id = absurd answers
 
-  slaves_give : (command : Command) (paths : List Parsed) (test : Bool) → IsOnTrees command
+  slaves_give : (command : Command) (paths : List Parsed) (test : Bool) → IsAnswerable command
       → OfCheck (MayGive command paths) (refuse_if (is_tree_call command && test) ReadOnly)
-  slaves_give (Mkdir path) paths test of_trees = by_test (MayGive (Mkdir path) paths) test ReadOnly ((4, omega arith, refl), tt)
-  slaves_give (Touch path) paths test of_trees = by_test (MayGive (Touch path) paths) test ReadOnly ((4, omega arith, refl), tt)
-  slaves_give (Symlink target path) paths test of_trees = by_test (MayGive (Symlink target path) paths) test ReadOnly ((4, omega arith, refl), tt)
-  slaves_give (Snapshot path) paths test of_trees = by_test (MayGive (Snapshot path) paths) test ReadOnly ((4, omega arith, refl), tt)
-  slaves_give (Ln old new) paths test of_trees = by_test (MayGive (Ln old new) paths) test ReadOnly ((8, omega arith, refl), tt)
-  slaves_give (Mv old new) paths test of_trees = by_test (MayGive (Mv old new) paths) test ReadOnly ((6, omega arith, refl), tt)
-  slaves_give (Write path offset bytes) paths test of_trees =
+  slaves_give (Mkdir path) paths test answers = by_test (MayGive (Mkdir path) paths) test ReadOnly ((4, omega arith, refl), tt)
+  slaves_give (Touch path) paths test answers = by_test (MayGive (Touch path) paths) test ReadOnly ((4, omega arith, refl), tt)
+  slaves_give (Symlink target path) paths test answers = by_test (MayGive (Symlink target path) paths) test ReadOnly ((4, omega arith, refl), tt)
+  slaves_give (Snapshot path) paths test answers = by_test (MayGive (Snapshot path) paths) test ReadOnly ((4, omega arith, refl), tt)
+  slaves_give (Ln old new) paths test answers = by_test (MayGive (Ln old new) paths) test ReadOnly ((8, omega arith, refl), tt)
+  slaves_give (Mv old new) paths test answers = by_test (MayGive (Mv old new) paths) test ReadOnly ((6, omega arith, refl), tt)
+  slaves_give (Write path offset bytes) paths test answers =
       by_test (MayGive (Write path offset bytes) paths) test ReadOnly (behind_file (offset + length bytes) 7 (0, omega arith, refl), tt)
-  slaves_give (Fill path offset count byte) paths test of_trees =
+  slaves_give (Fill path offset count byte) paths test answers =
       by_test (MayGive (Fill path offset count byte) paths) test ReadOnly (behind_file (offset + count) 7 (0, omega arith, refl), tt)
-  slaves_give (Truncate path size) paths test of_trees =
+  slaves_give (Truncate path size) paths test answers =
       by_test (MayGive (Truncate path size) paths) test ReadOnly (behind_file size 7 (0, omega arith, refl), tt)
-  slaves_give (Rm path) paths test of_trees = by_test (MayGive (Rm path) paths) test ReadOnly ((3, omega arith, refl), tt)
-  slaves_give (Rmdir path) paths test of_trees = by_test (MayGive (Rmdir path) paths) test ReadOnly ((2, omega arith, refl), tt)
-  slaves_give (Ls path) paths test of_trees = tt
-  slaves_give (Cat path offset count) paths test of_trees = tt
-  slaves_give (Stat path) paths test of_trees = tt
-  slaves_give (Readlink path) paths test of_trees = tt
-  slaves_give other paths test of_trees = absurd of_trees
+  slaves_give (Rm path) paths test answers = by_test (MayGive (Rm path) paths) test ReadOnly ((3, omega arith, refl), tt)
+  slaves_give (Rmdir path) paths test answers = by_test (MayGive (Rmdir path) paths) test ReadOnly ((2, omega arith, refl), tt)
+  slaves_give (Ls path) paths test answers = tt
+  slaves_give (Cat path offset count) paths test answers = tt
+  slaves_give (Stat path) paths test answers = tt
+  slaves_give (Readlink path) paths test answers = tt
+  slaves_give (PfsMaster path shared) paths test answers = by_test (MayGive (PfsMaster path shared) paths) test ReadOnly ((5, omega arith, refl), tt)
+  slaves_give (PfsSlave path shared) paths test answers = by_test (MayGive (PfsSlave path shared) paths) test ReadOnly ((5, omega arith, refl), tt)
+  slaves_give (Prune path) paths test answers = tt
+  slaves_give (PruneAll path) paths test answers = tt
+  slaves_give (PfsStatus path) paths test answers = tt
+  slaves_give other paths test answers = absurd answers
 
   -- where no name is made, no hash is looked at
   abbrev full_by : Command → List Parsed → Check
@@ -215,23 +239,28 @@ module _ (call : Call) where
       → OfCheck (MayGive command paths) (full_by command paths)
   unmade command paths none = rw none tt
 
-  hash_gives : (command : Command) (paths : List Parsed) → IsOnTrees command → OfCheck (MayGive command paths) (full_by command paths)
-  hash_gives (Mkdir path) paths of_trees = full_check (Mkdir path) paths ((2, omega arith, refl), tt)
-  hash_gives (Touch path) paths of_trees = full_check (Touch path) paths ((2, omega arith, refl), tt)
-  hash_gives (Symlink target path) paths of_trees = full_check (Symlink target path) paths ((2, omega arith, refl), tt)
-  hash_gives (Snapshot path) paths of_trees = full_check (Snapshot path) paths ((2, omega arith, refl), tt)
-  hash_gives (Ln old new) paths of_trees = full_check (Ln old new) paths ((6, omega arith, refl), tt)
-  hash_gives (Mv old new) paths of_trees = full_check (Mv old new) paths ((4, omega arith, refl), tt)
-  hash_gives (Write path offset bytes) paths of_trees = unmade (Write path offset bytes) paths (walks_none Follows path paths)
-  hash_gives (Fill path offset count byte) paths of_trees = unmade (Fill path offset count byte) paths (walks_none Follows path paths)
-  hash_gives (Truncate path size) paths of_trees = unmade (Truncate path size) paths (walks_none Follows path paths)
-  hash_gives (Rm path) paths of_trees = unmade (Rm path) paths (takes_none path paths)
-  hash_gives (Rmdir path) paths of_trees = unmade (Rmdir path) paths (takes_none path paths)
-  hash_gives (Ls path) paths of_trees = unmade (Ls path) paths (walks_none Follows path paths)
-  hash_gives (Cat path offset count) paths of_trees = unmade (Cat path offset count) paths (walks_none Follows path paths)
-  hash_gives (Stat path) paths of_trees = unmade (Stat path) paths (walks_none Stays path paths)
-  hash_gives (Readlink path) paths of_trees = unmade (Readlink path) paths (walks_none Stays path paths)
-  hash_gives other paths of_trees = absurd of_trees
+  hash_gives : (command : Command) (paths : List Parsed) → IsAnswerable command → OfCheck (MayGive command paths) (full_by command paths)
+  hash_gives (Mkdir path) paths answers = full_check (Mkdir path) paths ((2, omega arith, refl), tt)
+  hash_gives (Touch path) paths answers = full_check (Touch path) paths ((2, omega arith, refl), tt)
+  hash_gives (Symlink target path) paths answers = full_check (Symlink target path) paths ((2, omega arith, refl), tt)
+  hash_gives (Snapshot path) paths answers = full_check (Snapshot path) paths ((2, omega arith, refl), tt)
+  hash_gives (Ln old new) paths answers = full_check (Ln old new) paths ((6, omega arith, refl), tt)
+  hash_gives (Mv old new) paths answers = full_check (Mv old new) paths ((4, omega arith, refl), tt)
+  hash_gives (Write path offset bytes) paths answers = unmade (Write path offset bytes) paths (walks_none Follows path paths)
+  hash_gives (Fill path offset count byte) paths answers = unmade (Fill path offset count byte) paths (walks_none Follows path paths)
+  hash_gives (Truncate path size) paths answers = unmade (Truncate path size) paths (walks_none Follows path paths)
+  hash_gives (Rm path) paths answers = unmade (Rm path) paths (takes_none path paths)
+  hash_gives (Rmdir path) paths answers = unmade (Rmdir path) paths (takes_none path paths)
+  hash_gives (Ls path) paths answers = unmade (Ls path) paths (walks_none Follows path paths)
+  hash_gives (Cat path offset count) paths answers = unmade (Cat path offset count) paths (walks_none Follows path paths)
+  hash_gives (Stat path) paths answers = unmade (Stat path) paths (walks_none Stays path paths)
+  hash_gives (Readlink path) paths answers = unmade (Readlink path) paths (walks_none Stays path paths)
+  hash_gives (PfsMaster path shared) paths answers = full_check (PfsMaster path shared) paths ((3, omega arith, refl), tt)
+  hash_gives (PfsSlave path shared) paths answers = full_check (PfsSlave path shared) paths ((3, omega arith, refl), tt)
+  hash_gives (Prune path) paths answers = unmade (Prune path) paths (walks_none Follows path paths)
+  hash_gives (PruneAll path) paths answers = unmade (PruneAll path) paths (walks_none TakesPfs path paths)
+  hash_gives (PfsStatus path) paths answers = unmade (PfsStatus path) paths (walks_none TakesPfs path paths)
+  hash_gives other paths answers = absurd answers
 
   -- ---- want of space, and what is accepted
 
@@ -243,6 +272,7 @@ module _ (call : Call) where
     | Cat path offset count ↦ false
     | Stat path ↦ false
     | Readlink path ↦ false
+    | PfsStatus path ↦ false
     | other ↦ true
   ]
 
@@ -271,24 +301,29 @@ module _ (call : Call) where
   own_fits (Truncate path size) a b none = file_fits a size none
   own_fits other a b none = tt
 
-  space_gives : (command : Command) (paths : List Parsed) (free needed : ℕ) → IsOnTrees command → Fits command → asks_room command ≡ true
+  space_gives : (command : Command) (paths : List Parsed) (free needed : ℕ) → IsAnswerable command → Fits command → asks_room command ≡ true
       → MayGive command paths (NoSpace free needed)
-  space_gives (Mkdir path) paths free needed of_trees fits asks = ((3, omega arith, refl), tt)
-  space_gives (Touch path) paths free needed of_trees fits asks = ((3, omega arith, refl), tt)
-  space_gives (Symlink target path) paths free needed of_trees fits asks = ((3, omega arith, refl), tt)
-  space_gives (Snapshot path) paths free needed of_trees fits asks = ((3, omega arith, refl), tt)
-  space_gives (Ln old new) paths free needed of_trees fits asks = ((7, omega arith, refl), tt)
-  space_gives (Mv old new) paths free needed of_trees fits asks = ((5, omega arith, refl), tt)
-  space_gives (Write path offset bytes) paths free needed of_trees fits asks = (file_lacks (offset + length bytes) fits, tt)
-  space_gives (Fill path offset count byte) paths free needed of_trees fits asks = (file_lacks (offset + count) fits, tt)
-  space_gives (Truncate path size) paths free needed of_trees fits asks = (file_lacks size fits, tt)
-  space_gives (Rm path) paths free needed of_trees fits asks = ((2, omega arith, refl), tt)
-  space_gives (Rmdir path) paths free needed of_trees fits asks = absurd (cc)
-  space_gives (Ls path) paths free needed of_trees fits asks = absurd (cc)
-  space_gives (Cat path offset count) paths free needed of_trees fits asks = absurd (cc)
-  space_gives (Stat path) paths free needed of_trees fits asks = absurd (cc)
-  space_gives (Readlink path) paths free needed of_trees fits asks = absurd (cc)
-  space_gives other paths free needed of_trees fits asks = absurd of_trees
+  space_gives (Mkdir path) paths free needed answers fits asks = ((3, omega arith, refl), tt)
+  space_gives (Touch path) paths free needed answers fits asks = ((3, omega arith, refl), tt)
+  space_gives (Symlink target path) paths free needed answers fits asks = ((3, omega arith, refl), tt)
+  space_gives (Snapshot path) paths free needed answers fits asks = ((3, omega arith, refl), tt)
+  space_gives (Ln old new) paths free needed answers fits asks = ((7, omega arith, refl), tt)
+  space_gives (Mv old new) paths free needed answers fits asks = ((5, omega arith, refl), tt)
+  space_gives (Write path offset bytes) paths free needed answers fits asks = (file_lacks (offset + length bytes) fits, tt)
+  space_gives (Fill path offset count byte) paths free needed answers fits asks = (file_lacks (offset + count) fits, tt)
+  space_gives (Truncate path size) paths free needed answers fits asks = (file_lacks size fits, tt)
+  space_gives (Rm path) paths free needed answers fits asks = ((2, omega arith, refl), tt)
+  space_gives (Rmdir path) paths free needed answers fits asks = absurd (cc)
+  space_gives (Ls path) paths free needed answers fits asks = absurd (cc)
+  space_gives (Cat path offset count) paths free needed answers fits asks = absurd (cc)
+  space_gives (Stat path) paths free needed answers fits asks = absurd (cc)
+  space_gives (Readlink path) paths free needed answers fits asks = absurd (cc)
+  space_gives (Prune path) paths free needed answers fits asks = ((3, omega arith, refl), tt)
+  space_gives (PruneAll path) paths free needed answers fits asks = ((1, omega arith, refl), tt)
+  space_gives (PfsMaster path shared) paths free needed answers fits asks = ((4, omega arith, refl), tt)
+  space_gives (PfsSlave path shared) paths free needed answers fits asks = ((4, omega arith, refl), tt)
+  space_gives (PfsStatus path) paths free needed answers fits asks = absurd (cc)
+  space_gives other paths free needed answers fits asks = absurd answers
 
   abbrev zones_by : Command → List ℕ
   zones_by command = elim command as (λ c. List ℕ) [
@@ -310,24 +345,29 @@ module _ (call : Call) where
   ]
 
   -- one that asks for none lacks none
-  room_asked : (command : Command) (room : ℕ → ℕ) (left : ℕ) → IsOnTrees command → left < lacking (zones_by command) room
+  room_asked : (command : Command) (room : ℕ → ℕ) (left : ℕ) → IsAnswerable command → left < lacking (zones_by command) room
       → asks_room command ≡ true
-  room_asked (Mkdir path) room left of_trees less = refl
-  room_asked (Touch path) room left of_trees less = refl
-  room_asked (Symlink target path) room left of_trees less = refl
-  room_asked (Snapshot path) room left of_trees less = refl
-  room_asked (Ln old new) room left of_trees less = refl
-  room_asked (Mv old new) room left of_trees less = refl
-  room_asked (Write path offset bytes) room left of_trees less = refl
-  room_asked (Fill path offset count byte) room left of_trees less = refl
-  room_asked (Truncate path size) room left of_trees less = refl
-  room_asked (Rm path) room left of_trees less = refl
-  room_asked (Rmdir path) room left of_trees less = absurd (omega (arith, less))
-  room_asked (Ls path) room left of_trees less = absurd (omega (arith, less))
-  room_asked (Cat path offset count) room left of_trees less = absurd (omega (arith, less))
-  room_asked (Stat path) room left of_trees less = absurd (omega (arith, less))
-  room_asked (Readlink path) room left of_trees less = absurd (omega (arith, less))
-  room_asked other room left of_trees less = absurd of_trees
+  room_asked (Mkdir path) room left answers less = refl
+  room_asked (Touch path) room left answers less = refl
+  room_asked (Symlink target path) room left answers less = refl
+  room_asked (Snapshot path) room left answers less = refl
+  room_asked (Ln old new) room left answers less = refl
+  room_asked (Mv old new) room left answers less = refl
+  room_asked (Write path offset bytes) room left answers less = refl
+  room_asked (Fill path offset count byte) room left answers less = refl
+  room_asked (Truncate path size) room left answers less = refl
+  room_asked (Rm path) room left answers less = refl
+  room_asked (Rmdir path) room left answers less = absurd (omega (arith, less))
+  room_asked (Ls path) room left answers less = absurd (omega (arith, less))
+  room_asked (Cat path offset count) room left answers less = absurd (omega (arith, less))
+  room_asked (Stat path) room left answers less = absurd (omega (arith, less))
+  room_asked (Readlink path) room left answers less = absurd (omega (arith, less))
+  room_asked (Prune path) room left answers less = refl
+  room_asked (PruneAll path) room left answers less = refl
+  room_asked (PfsMaster path shared) room left answers less = refl
+  room_asked (PfsSlave path shared) room left answers less = refl
+  room_asked (PfsStatus path) room left answers less = absurd (omega (arith, less))
+  room_asked other room left answers less = absurd answers
 
   abbrev shown : FileTree
   shown = call.view (first_site call).at.pfs (first_site call).at.when
@@ -362,42 +402,49 @@ module _ (call : Call) where
     | other ↦ Done
   ]
 
-  accepted_gives : (command : Command) (paths : List Parsed) → IsOnTrees command → Fits command → MayGive command paths (accepted_by command)
-  accepted_gives (Ls path) paths of_trees fits =
+  accepted_gives : (command : Command) (paths : List Parsed) → IsAnswerable command → Fits command → MayGive command paths (accepted_by command)
+  accepted_gives (Ls path) paths answers fits =
       of_option (MayGive (Ls path) paths) (at_by (Ls path)) (site_object call (first_site call)) NotFound (λ o. ((0, omega arith, refl), tt))
       (has_tail 102 2 (on_a_read paths) (in_read paths 2 lost_in_walk), tt)
-  accepted_gives (Cat path offset count) paths of_trees fits =
+  accepted_gives (Cat path offset count) paths answers fits =
       of_option (MayGive (Cat path offset count) paths) (at_by (Cat path offset count)) (site_object call (first_site call)) NotFound
       (λ o. ((0, omega arith, refl), tt)) (behind_cat paths 2 (in_read paths 2 lost_in_walk), tt)
-  accepted_gives (Stat path) paths of_trees fits =
+  accepted_gives (Stat path) paths answers fits =
       of_option (MayGive (Stat path) paths) (at_by (Stat path)) (site_object call (first_site call)) NotFound (λ o. ((0, omega arith, refl), tt))
       (has_tail 104 2 (on_a_read paths) (in_read paths 2 lost_in_walk), tt)
-  accepted_gives (Readlink path) paths of_trees fits =
+  accepted_gives (Readlink path) paths answers fits =
       of_option (MayGive (Readlink path) paths) (at_by (Readlink path)) (site_object call (first_site call)) NotFound (λ o. ((0, omega arith, refl), tt))
       (behind_link paths 2 (in_read paths 2 lost_in_walk), tt)
-  accepted_gives (Mkdir path) paths of_trees fits = ((0, omega arith, refl), tt)
-  accepted_gives (Touch path) paths of_trees fits = ((0, omega arith, refl), tt)
-  accepted_gives (Symlink target path) paths of_trees fits = ((0, omega arith, refl), tt)
-  accepted_gives (Snapshot path) paths of_trees fits = ((0, omega arith, refl), tt)
-  accepted_gives (Ln old new) paths of_trees fits = ((0, omega arith, refl), tt)
-  accepted_gives (Mv old new) paths of_trees fits = ((0, omega arith, refl), tt)
-  accepted_gives (Write path offset bytes) paths of_trees fits = (file_accepted (offset + length bytes) fits, tt)
-  accepted_gives (Fill path offset count byte) paths of_trees fits = (file_accepted (offset + count) fits, tt)
-  accepted_gives (Truncate path size) paths of_trees fits = (file_accepted size fits, tt)
-  accepted_gives (Rm path) paths of_trees fits = ((0, omega arith, refl), tt)
-  accepted_gives (Rmdir path) paths of_trees fits = ((0, omega arith, refl), tt)
-  accepted_gives other paths of_trees fits = absurd of_trees
+  accepted_gives (Mkdir path) paths answers fits = ((0, omega arith, refl), tt)
+  accepted_gives (Touch path) paths answers fits = ((0, omega arith, refl), tt)
+  accepted_gives (Symlink target path) paths answers fits = ((0, omega arith, refl), tt)
+  accepted_gives (Snapshot path) paths answers fits = ((0, omega arith, refl), tt)
+  accepted_gives (Ln old new) paths answers fits = ((0, omega arith, refl), tt)
+  accepted_gives (Mv old new) paths answers fits = ((0, omega arith, refl), tt)
+  accepted_gives (Write path offset bytes) paths answers fits = (file_accepted (offset + length bytes) fits, tt)
+  accepted_gives (Fill path offset count byte) paths answers fits = (file_accepted (offset + count) fits, tt)
+  accepted_gives (Truncate path size) paths answers fits = (file_accepted size fits, tt)
+  accepted_gives (Rm path) paths answers fits = ((0, omega arith, refl), tt)
+  accepted_gives (Rmdir path) paths answers fits = ((0, omega arith, refl), tt)
+  accepted_gives (Prune path) paths answers fits = ((0, omega arith, refl), tt)
+  accepted_gives (PruneAll path) paths answers fits = ((0, omega arith, refl), tt)
+  accepted_gives (PfsMaster path shared) paths answers fits = ((0, omega arith, refl), tt)
+  accepted_gives (PfsSlave path shared) paths answers fits = ((0, omega arith, refl), tt)
+  accepted_gives (PfsStatus path) paths answers fits =
+      of_option (MayGive (PfsStatus path) paths) record_of (site_system call (first_site call)) NotFound (λ s. ((0, omega arith, refl), tt))
+      ((1, omega arith, refl), tt)
+  accepted_gives other paths answers fits = absurd answers
 
-  -- no check of intervals is made
+  -- the check of intervals
   abbrev intervals_by : Command → Check
   intervals_by command = elim command as (λ c. Check) [
     | Prune path ↦ refuse_if (nat_lt MOST_INTERVALS (pruned_count call)) (TooManyIntervals (min (pruned_count call) (2 ^ 32 - 1)))
     | other ↦ None
   ]
 
-  intervals_give : (command : Command) (paths : List Parsed) → IsOnTrees command → OfCheck (MayGive command paths) (intervals_by command)
-  intervals_give (Prune path) paths of_trees = absurd of_trees
-  intervals_give other paths of_trees = tt
+  intervals_give : (command : Command) (paths : List Parsed) → IsAnswerable command → OfCheck (MayGive command paths) (intervals_by command)
+  intervals_give (Prune path) paths answers = by_test (MayGive (Prune path) paths) _ _ ((2, omega arith, refl), tt)
+  intervals_give other paths answers = tt
 
   -- ---- the cause
 
@@ -413,7 +460,7 @@ module _ (call : Call) where
   abbrev last : List Check
   last = hash_left call ∷ intervals_left call ∷ []
 
-  module _ (of_trees : IsOnTrees call.command) (left : call.volume.last < GREATEST_ID) where
+  module _ (answers : IsAnswerable call.command) (left : call.volume.last < GREATEST_ID) where
     abbrev Gives : Reply → Type 0
     Gives = MayGive call.command call.paths
 
@@ -442,9 +489,9 @@ module _ (call : Call) where
     not_refused true reply is = absurd (cc)
     not_refused false reply is = refl
 
-    -- where none fails, no path of a call on a tree has an id
-    no_id : first_refusal early ≡ None → is_tree_call call.command ≡ true → list_any has_id call.paths ≡ false
-    no_id none tree =
+    -- where none fails, no path of a call on a tree or a PFS has an id
+    no_id : first_refusal early ≡ None → (is_tree_call call.command || is_pfs_call call.command) ≡ true → list_any has_id call.paths ≡ false
+    no_id none acts =
         let after_open = (no_rest (none_open call.busy call.command) _ none).1 in
         let good : List Check = good_paths (uses_of call.command) call.paths in
         let futures : List Check = map (no_future call.volume.last) call.paths in
@@ -452,7 +499,7 @@ module _ (call : Call) where
         let past = (no_rest (past_stays call.command call.paths) []
         (no_rest (no_future_begin call.volume.last call.command) (past_stays call.command call.paths ∷ []) ends).1).0 in
         let failed = not_refused ((is_tree_call call.command || is_pfs_call call.command) && list_any has_id call.paths) ReadOnly past in
-        (λ t. (sym tree t || is_pfs_call call.command) && list_any has_id call.paths) ∙ failed
+        (λ t. sym acts t && list_any has_id call.paths) ∙ failed
 
     -- and a refusal is one that the call can give
     later_give : first_refusal early ≡ None → (r : Reply) → refusal call ≡ Some r → Gives r
@@ -463,17 +510,17 @@ module _ (call : Call) where
       by_own : (first_refusal (early ++ on_walks) ≡ Some r) ⊎ (first_refusal own ≡ Some r) → Gives r
       by_own (inr found) =
           of_first own (
-            slaves_give call.command call.paths (list_any (is_in_slave call) (all_located call)) of_trees,
-            rest call.command call.paths (first_site call) (second_site call) of_trees,
+            slaves_give call.command call.paths (list_any (is_in_slave call) (all_located call)) answers,
+            rest call.command call.paths (first_site call) (second_site call) answers,
           ) found
       by_own (inl found) = elim (first_split early on_walks r found) [
         | inl early_found ↦ absurd (let lost : None ≡ Some r = sym none ∙ early_found in cc)
-        | inr walk_found ↦ of_first on_walks (walks_give call.command call.paths of_trees (no_id none)) walk_found
+        | inr walk_found ↦ of_first on_walks (walks_give call.command call.paths answers (no_id none)) walk_found
       ]
 
       by_last : (first_refusal ((early ++ on_walks) ++ own) ≡ Some r) ⊎ (first_refusal last ≡ Some r) → Gives r
       by_last (inr found) =
-          of_first last (hash_gives call.command call.paths of_trees, (intervals_give call.command call.paths of_trees, tt)) found
+          of_first last (hash_gives call.command call.paths answers, (intervals_give call.command call.paths answers, tt)) found
       by_last (inl found) = by_own (first_split (early ++ on_walks) own r found)
 
     module _ (room : ℕ → ℕ) (free : ℕ) (reply : Reply) (due : reply ≡ due_over call room free) where
@@ -483,9 +530,9 @@ module _ (call : Call) where
         in_way none (refused r is same) = subst Gives (sym (due ∙ same)) (later_give none r is)
         in_way none (lacks unrefused less same) =
             subst Gives (sym (due ∙ same))
-            (space_gives call.command call.paths free (lacking (zones_of call) room) of_trees (fits unrefused)
-            (room_asked call.command room (free - held_of call.command) of_trees less))
-        in_way none (serves unrefused same) = subst Gives (sym (due ∙ same)) (accepted_gives call.command call.paths of_trees (fits unrefused))
+            (space_gives call.command call.paths free (lacking (zones_of call) room) answers (fits unrefused)
+            (room_asked call.command room (free - held_of call.command) answers less))
+        in_way none (serves unrefused same) = subst Gives (sym (due ∙ same)) (accepted_gives call.command call.paths answers (fits unrefused))
 
         by_way : (r : Reply) → first_refusal early ≡ Some r → Way call room free → reply ≡ r
         by_way r is (refused other found same) = due ∙ (same ∙ (let one : Some other ≡ Some r = sym found ∙ early_refuses r is in cc))
@@ -498,5 +545,5 @@ module _ (call : Call) where
             let same : reply ≡ r = by_way r is (way call room free) in (
               inl same,
               subst IsPlain (sym same) (subst (OfCheck IsPlain) is (first_of_all IsPlain early
-                  (early_plain call.volume.last call.busy call.command call.paths of_trees))),
+                  (early_plain call.volume.last call.busy call.command call.paths answers))),
             )

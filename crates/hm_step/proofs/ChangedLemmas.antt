@@ -41,6 +41,7 @@ use Rattle.hm_image.proofs.FollowLemmas.{follows_where, of_place}
 use Rattle.hm_step.specs.Step.{after_call, drawn}
 use Rattle.hm_step.proofs.NextLemmas.{follows_next, slave_later, system_at, versions_later, view_next}
 use Rattle.hm_step.proofs.NumberLemmas.{changed_numbers, number_is_new}
+use Rattle.hm_step.proofs.SystemNumberLemmas.{numbers_kept}
 use Rattle.hm_step.proofs.SystemLemmas.{all_after, changed_one, found_beside, found_here, new_tree, on_each, own_after, still_there}
 
 -- the tree of the newest version that is shown is one of the versions', or none
@@ -293,6 +294,7 @@ module _ (call : Call) (es es' : List FullElement) (stand : StandFor es call.vol
     records = records;
     drawn = omega (arith, left);
     own = own_after volume pfs newer newer_keeps stand.own;
+    numbers = numbers_kept volume pfs newer newer_keeps stand.own stand.numbers;
     of_systems = of_systems;
     ids = on_each volume pfs newer newer_keeps (HasIds es' id) ids_beside ids_here;
     begun = on_each volume pfs newer newer_keeps (λ other s. AreBegun s) (λ other s differ is. stand.begun other s is) begun_here;

@@ -1,6 +1,6 @@
 -- Elements stand for a volume still where a PFS has fewer ids to show, and its record says so.
 use Rattle.std.proofs.Common.{◌≡◌, ◌≢◌, ◌∙◌, ℕ, ◌+◌, ◌^◌, ◌≤◌, true, List, [], ◌∷◌, ◌++◌, length, refl, ap, sym, subst, inl, inr, arith}
-use Rattle.std.specs.Prelude.{Option, ◌↔◌, ◌⊎◌, Some, option_map}
+use Rattle.std.specs.Prelude.{◌↔◌, ◌⊎◌, Some, option_map}
 use Rattle.std.specs.List.{All, Contains}
 use Rattle.std.proofs.lemmas.List.Elements.{All-contains, All-head, All-tail}
 use Rattle.hm_types.specs.Elements.{FullElement}
@@ -36,6 +36,7 @@ use Rattle.hm_step.proofs.JobLemmas.{enough_less, system_for}
 use Rattle.hm_step.proofs.KnownLemmas.{record_at}
 use Rattle.hm_step.proofs.NextLemmas.{role_is, shown_of_master, shown_of_slave, system_at}
 use Rattle.hm_step.proofs.RecordLemmas.{other_record, set_fit, set_follows, set_keys, set_names, set_of, set_payloads, set_record, set_unfed, set_up_to, set_view}
+use Rattle.hm_step.proofs.SystemNumberLemmas.{numbers_kept}
 use Rattle.hm_step.proofs.SystemLemmas.{all_after, found_beside, found_here, on_each, own_after, still_there}
 
 module _ (es es' : List FullElement) (volume : Volume) (pfs : ℕ) (change : PseudoFileSystem → PseudoFileSystem) (keeps : KeepsNumber change)
@@ -209,6 +210,7 @@ module _ (es es' : List FullElement) (volume : Volume) (pfs : ℕ) (change : Pse
     records = records;
     drawn = stand.drawn;
     own = own_after volume pfs change keeps stand.own;
+    numbers = numbers_kept volume pfs change keeps stand.own stand.numbers;
     of_systems = of_systems;
     ids = on_cut (HasIds es' volume.last) ids_beside ids_here;
     begun = on_cut (λ other s. AreBegun s) stand.begun (stand.begun pfs one by_cut.there);
@@ -274,7 +276,7 @@ present_master id s role = rw role refl
 present_slave : (id : ℕ) (s : PseudoFileSystem) → s.role ≡ Slave → present_only id s ≡ retaining (cut s.retention (s.sync_end ∷ []) (2 ^ 64)) s
 present_slave id s role = rw role refl
 
-present_number : (id : ℕ) → KeepsNumber (present_only id)
+pub present_number : (id : ℕ) → KeepsNumber (present_only id)
 present_number id s =
     by_role (λ (t : PseudoFileSystem). t.number ≡ s.number) (retaining (cut s.retention [] id) s)
     (retaining (cut s.retention (s.sync_end ∷ []) (2 ^ 64)) s) s.role refl refl

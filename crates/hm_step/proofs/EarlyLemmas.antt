@@ -11,18 +11,18 @@ use Rattle.hm_model.specs.Due.{Check, early_checks, first_refusal, good_path, go
 use Rattle.hm_model.specs.Reply.{told_boundary}
 use Rattle.hm_model.specs.Sites.{BadAt, Parsed, Parts, ReadsWords, Use, uses_of}
 use Rattle.hm_model.specs.declared.command.Command.{Command}
-use Rattle.hm_model.specs.declared.command.Command.TheVariants.{Cat, Fill, Truncate, Write, Ln, Ls, Mkdir, Mv, Readlink, Rm, Rmdir, Snapshot, Stat, Symlink, Touch}
+use Rattle.hm_model.specs.declared.command.Command.TheVariants.{Cat, Fill, Truncate, Write, Ln, Ls, Mkdir, Mv, Readlink, Rm, Rmdir, Snapshot, Stat, Symlink, Touch, PfsMaster, PfsSlave, PfsStatus, Prune, PruneAll}
 use Rattle.hm_model.specs.declared.reply.Reply.{Reply}
 use Rattle.hm_model.specs.declared.reply.Reply.TheVariants.{BadPath, Busy, Cut, Damaged, Future, Media, Passed, ReadOnly, StreamFault, Synced}
 use Rattle.hm_model.proofs.DueLemmas.{of_test}
 use Rattle.hm_model.proofs.EffectLemmas.{or_false}
 use Rattle.hm_records.proofs.MemberLemmas.{has_cases, has_none}
-use Rattle.hm_calls.specs.Commands.{IsOnTrees}
+use Rattle.hm_calls.specs.Answered.{IsAnswerable}
 use Rattle.hm_calls.specs.Possible.{IsOwn, MayReply}
 use Rattle.hm_step.proofs.GivenLemmas.{IsPlain, by_option, by_test, unless_test}
 use Rattle.hm_step.proofs.PossibleLemmas.{OfAll, OfCheck, all_both, first_of_all}
 
-module _ (last : ℕ) (busy : Option ℕ) (command : Command) (paths : List Parsed) (of_trees : IsOnTrees command) where
+module _ (last : ℕ) (busy : Option ℕ) (command : Command) (paths : List Parsed) (answers : IsAnswerable command) where
   goods_plain : (uses : List (Use × List ℕ)) (paths : List Parsed) → OfAll IsPlain (good_paths uses paths)
   goods_plain [] paths = tt
   goods_plain (u ∷ uses) [] = tt
@@ -35,23 +35,28 @@ module _ (last : ℕ) (busy : Option ℕ) (command : Command) (paths : List Pars
   futures_plain [] = tt
   futures_plain (path ∷ paths) = (by_test IsPlain _ (Future (record { 0 = last })) tt, futures_plain paths)
 
-  begin_plain : (command : Command) → IsOnTrees command → OfCheck IsPlain (no_future_begin last command)
-  begin_plain (Mkdir path) of_trees = tt
-  begin_plain (Touch path) of_trees = tt
-  begin_plain (Symlink target path) of_trees = tt
-  begin_plain (Snapshot path) of_trees = tt
-  begin_plain (Ln old new) of_trees = tt
-  begin_plain (Mv old new) of_trees = tt
-  begin_plain (Write path offset bytes) of_trees = tt
-  begin_plain (Fill path offset count byte) of_trees = tt
-  begin_plain (Truncate path size) of_trees = tt
-  begin_plain (Rm path) of_trees = tt
-  begin_plain (Rmdir path) of_trees = tt
-  begin_plain (Ls path) of_trees = tt
-  begin_plain (Cat path offset count) of_trees = tt
-  begin_plain (Stat path) of_trees = tt
-  begin_plain (Readlink path) of_trees = tt
-  begin_plain other of_trees = absurd of_trees
+  begin_plain : (command : Command) → IsAnswerable command → OfCheck IsPlain (no_future_begin last command)
+  begin_plain (Mkdir path) answers = tt
+  begin_plain (Touch path) answers = tt
+  begin_plain (Symlink target path) answers = tt
+  begin_plain (Snapshot path) answers = tt
+  begin_plain (Ln old new) answers = tt
+  begin_plain (Mv old new) answers = tt
+  begin_plain (Write path offset bytes) answers = tt
+  begin_plain (Fill path offset count byte) answers = tt
+  begin_plain (Truncate path size) answers = tt
+  begin_plain (Rm path) answers = tt
+  begin_plain (Rmdir path) answers = tt
+  begin_plain (Ls path) answers = tt
+  begin_plain (Cat path offset count) answers = tt
+  begin_plain (Stat path) answers = tt
+  begin_plain (Readlink path) answers = tt
+  begin_plain (Prune path) answers = tt
+  begin_plain (PruneAll path) answers = tt
+  begin_plain (PfsMaster path shared) answers = tt
+  begin_plain (PfsSlave path shared) answers = tt
+  begin_plain (PfsStatus path) answers = tt
+  begin_plain other answers = absurd answers
 
   -- each early refusal is plain
   pub early_plain : OfAll IsPlain (early_checks last busy command paths)
@@ -61,7 +66,7 @@ module _ (last : ℕ) (busy : Option ℕ) (command : Command) (paths : List Pars
         open_plain (is_pass command),
         all_both IsPlain (good ++ futures) (no_future_begin last command ∷ past_stays command paths ∷ [])
             (all_both IsPlain good futures (goods_plain (uses_of command) paths) (futures_plain paths))
-            (begin_plain command of_trees, (by_test IsPlain _ ReadOnly tt, tt)),
+            (begin_plain command answers, (by_test IsPlain _ ReadOnly tt, tt)),
       )
     where
       open_plain : (test : Bool) → OfCheck IsPlain (if test then option_map_or (λ opening. Some (Busy (record { 0 = opening }))) busy None else None)
@@ -110,38 +115,43 @@ file_untold end =
     of_test (λ (l : List ℕ). has_more (4 ∷ 32 ∷ l) ≡ false) (nat_lt MOST_FILE_BYTES end) (10 ∷ on_a_change) (101 ∷ 20 ∷ on_a_change) refl refl
 
 -- no call on names or on the bytes of files gives one
-possible_untold : (command : Command) (paths : List Parsed) → IsOnTrees command → has_more (possible command paths) ≡ false
-possible_untold (Mkdir path) paths of_trees = refl
-possible_untold (Touch path) paths of_trees = refl
-possible_untold (Symlink target path) paths of_trees = refl
-possible_untold (Snapshot path) paths of_trees = refl
-possible_untold (Ln old new) paths of_trees = refl
-possible_untold (Mv old new) paths of_trees = refl
-possible_untold (Write path offset bytes) paths of_trees = file_untold (offset + length bytes)
-possible_untold (Fill path offset count byte) paths of_trees = file_untold (offset + count)
-possible_untold (Truncate path size) paths of_trees = file_untold size
-possible_untold (Rm path) paths of_trees = refl
-possible_untold (Rmdir path) paths of_trees = refl
-possible_untold (Ls path) paths of_trees = read_untold (102 ∷ []) paths refl refl
-possible_untold (Cat path offset count) paths of_trees = read_untold (103 ∷ 4 ∷ 32 ∷ []) paths refl refl
-possible_untold (Stat path) paths of_trees = read_untold (104 ∷ []) paths refl refl
-possible_untold (Readlink path) paths of_trees = read_untold (105 ∷ 31 ∷ []) paths refl refl
-possible_untold other paths of_trees = absurd of_trees
+possible_untold : (command : Command) (paths : List Parsed) → IsAnswerable command → has_more (possible command paths) ≡ false
+possible_untold (Mkdir path) paths answers = refl
+possible_untold (Touch path) paths answers = refl
+possible_untold (Symlink target path) paths answers = refl
+possible_untold (Snapshot path) paths answers = refl
+possible_untold (Ln old new) paths answers = refl
+possible_untold (Mv old new) paths answers = refl
+possible_untold (Write path offset bytes) paths answers = file_untold (offset + length bytes)
+possible_untold (Fill path offset count byte) paths answers = file_untold (offset + count)
+possible_untold (Truncate path size) paths answers = file_untold size
+possible_untold (Rm path) paths answers = refl
+possible_untold (Rmdir path) paths answers = refl
+possible_untold (Ls path) paths answers = read_untold (102 ∷ []) paths refl refl
+possible_untold (Cat path offset count) paths answers = read_untold (103 ∷ 4 ∷ 32 ∷ []) paths refl refl
+possible_untold (Stat path) paths answers = read_untold (104 ∷ []) paths refl refl
+possible_untold (Readlink path) paths answers = read_untold (105 ∷ 31 ∷ []) paths refl refl
+possible_untold (Prune path) paths answers = refl
+possible_untold (PruneAll path) paths answers = refl
+possible_untold (PfsMaster path shared) paths answers = refl
+possible_untold (PfsSlave path shared) paths answers = refl
+possible_untold (PfsStatus path) paths answers = refl
+possible_untold other paths answers = absurd answers
 
 -- each reply that a call may have by its words is plain
-pub may_plain : (last : ℕ) (busy : Option ℕ) (command : Command) (paths : List Parsed) (reply : Reply) → IsOnTrees command
+pub may_plain : (last : ℕ) (busy : Option ℕ) (command : Command) (paths : List Parsed) (reply : Reply) → IsAnswerable command
     → ReadsWords command paths → MayReply last busy command reply → IsPlain reply
-may_plain last busy command paths reply of_trees reads may = by (first_refusal early) refl (may.listed paths reads) where
+may_plain last busy command paths reply answers reads may = by (first_refusal early) refl (may.listed paths reads) where
   early : List Check
   early = early_checks last busy command paths
 
   by : (found : Check) → first_refusal early ≡ found → IsPossible found (possible command paths) reply → IsPlain reply
   by (Some refusal) is (inl same) =
-      subst IsPlain (sym same) (subst (OfCheck IsPlain) is (first_of_all IsPlain early (early_plain last busy command paths of_trees)))
+      subst IsPlain (sym same) (subst (OfCheck IsPlain) is (first_of_all IsPlain early (early_plain last busy command paths answers)))
   by (Some refusal) is (inr free) = plain_of reply may.own (untold at_any_point refl (number_of reply) free)
-  by None is has = plain_of reply may.own (untold (possible command paths) (possible_untold command paths of_trees) (number_of reply) has)
+  by None is has = plain_of reply may.own (untold (possible command paths) (possible_untold command paths answers) (number_of reply) has)
 
-pub no_boundary : (last : ℕ) (busy : Option ℕ) (command : Command) (paths : List Parsed) (reply : Reply) → IsOnTrees command
+pub no_boundary : (last : ℕ) (busy : Option ℕ) (command : Command) (paths : List Parsed) (reply : Reply) → IsAnswerable command
     → ReadsWords command paths → MayReply last busy command reply → told_boundary reply ≡ None
-no_boundary last busy command paths reply of_trees reads may =
-    plain_tells_none reply (may_plain last busy command paths reply of_trees reads may)
+no_boundary last busy command paths reply answers reads may =
+    plain_tells_none reply (may_plain last busy command paths reply answers reads may)

@@ -26,22 +26,26 @@ system_for volume after pfs (Some ids) still was = λ t keeps. let (s, is) = was
 
 -- ---- after a call
 
--- a call that adds no PFS leaves every retention
+-- a version more leaves every retention
+pub keeps_newer : (call : Call)
+    → StillKeeps call.volume (drawn (own_id call) (of_pfs call.volume (changed_pfs call) (add_version (own_id call) (new_tree call))))
+keeps_newer call kept enough = record {
+  within = on_each call.volume pfs newer (λ s. refl) (λ other s. IsEnough (kept other) s.retention) (λ other s differ is. enough.within other s is)
+      (λ s is. enough.within pfs s is);
+  of_systems = λ other. system_for call.volume (drawn (own_id call) (of_pfs call.volume pfs newer)) other (kept other)
+      (λ s is. still_there call.volume pfs newer (λ u. refl) other s is) (enough.of_systems other);
+} where
+  pfs : ℕ
+  pfs = changed_pfs call
+
+  newer : PseudoFileSystem → PseudoFileSystem
+  newer = add_version (own_id call) (new_tree call)
+
+-- so does a call that adds no PFS
 pub keeps_after : (test : Bool) (call : Call) → adds_pfs call.command ≡ false → StillKeeps call.volume (after_call test call)
 keeps_after false call adds kept enough = record { within = enough.within; of_systems = enough.of_systems }
 keeps_after true call adds kept enough =
-    subst (λ (v : Volume). KeepsEnough kept (drawn (own_id call) v)) (sym (changed_one call adds)) (record {
-      within = on_each call.volume pfs newer (λ s. refl) (λ other s. IsEnough (kept other) s.retention) (λ other s differ is. enough.within other s is)
-          (λ s is. enough.within pfs s is);
-      of_systems = λ other. system_for call.volume (drawn (own_id call) (of_pfs call.volume pfs newer)) other (kept other)
-          (λ s is. still_there call.volume pfs newer (λ u. refl) other s is) (enough.of_systems other);
-    })
-  where
-    pfs : ℕ
-    pfs = changed_pfs call
-
-    newer : PseudoFileSystem → PseudoFileSystem
-    newer = add_version (own_id call) (new_tree call)
+    subst (λ (v : Volume). KeepsEnough kept (drawn (own_id call) v)) (sym (changed_one call adds)) (keeps_newer call kept enough)
 
 -- ---- as it begins
 

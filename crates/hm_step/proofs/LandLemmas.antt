@@ -11,12 +11,12 @@ use Rattle.hm_model.specs.Sites.{At, IsParsed, Located, MakesName, Nowhere, Pars
 use Rattle.hm_model.specs.Volume.{Master, PseudoFileSystem, Role, Slave, Volume, system_of}
 use Rattle.hm_model.specs.Walk.{Follows, Stays}
 use Rattle.hm_model.specs.declared.command.Command.{Command}
-use Rattle.hm_model.specs.declared.command.Command.TheVariants.{Cat, Fill, Ln, Ls, Mkdir, Mv, Readlink, Rm, Rmdir, Snapshot, Stat, Symlink, Touch, Truncate, Write}
+use Rattle.hm_model.specs.declared.command.Command.TheVariants.{Cat, Fill, Ln, Ls, Mkdir, Mv, PfsMaster, PfsSlave, PfsStatus, Prune, PruneAll, Readlink, Rm, Rmdir, Snapshot, Stat, Symlink, Touch, Truncate, Write}
 use Rattle.hm_model.specs.declared.reply.Reply.TheVariants.{ReadOnly}
 use Rattle.hm_model.proofs.CheckLemmas.{no_first, no_rest}
 use Rattle.hm_model.proofs.EffectLemmas.{or_false}
 use Rattle.hm_calls.specs.Changes.{HasSystem}
-use Rattle.hm_calls.specs.Commands.{IsOnTrees}
+use Rattle.hm_calls.specs.Answered.{IsAnswerable}
 
 module _ (call : Call) where
   abbrev volume : Volume
@@ -78,7 +78,7 @@ module _ (call : Call) where
     | other ↦ a.at.pfs
   ]
 
-  by_command : (command : Command) (paths : List Parsed) → IsOnTrees command → is_tree_call command ≡ true
+  by_command : (command : Command) (paths : List Parsed) → IsAnswerable command → is_tree_call command ≡ true
       → AllZip (λ (w : Use × List ℕ) (path : Parsed). IsParsed w.1 path) (uses_of command) paths → Passes (uses_of command) paths
       → IsNoSlave (pfs_by command (first_of (each_located call (uses_of command) paths)) (second_of (each_located call (uses_of command) paths)))
   by_command (Mkdir path) paths served tree reads passes = one_lands MakesName _ paths reads passes
@@ -96,10 +96,15 @@ module _ (call : Call) where
   by_command (Cat path offset count) paths served tree reads passes = absurd (cc)
   by_command (Stat path) paths served tree reads passes = absurd (cc)
   by_command (Readlink path) paths served tree reads passes = absurd (cc)
+  by_command (PfsMaster path shared) paths served tree reads passes = one_lands MakesName _ paths reads passes
+  by_command (PfsSlave path shared) paths served tree reads passes = one_lands MakesName _ paths reads passes
+  by_command (PfsStatus path) paths served tree reads passes = absurd (cc)
+  by_command (Prune path) paths served tree reads passes = absurd (cc)
+  by_command (PruneAll path) paths served tree reads passes = absurd (cc)
   by_command other paths served tree reads passes = absurd served
 
   -- a call that no check refuses changes the tree of a master, if that is there
-  pub lands_in_master : IsOnTrees call.command → is_tree_call call.command ≡ true → ReadsPaths call → refusal call ≡ None
+  pub lands_in_master : IsAnswerable call.command → is_tree_call call.command ≡ true → ReadsPaths call → refusal call ≡ None
       → HasSystem volume (changed_pfs call) → HasMaster (changed_pfs call)
   lands_in_master served tree reads none (s, is) = (s, is, by_command call.command call.paths served tree reads passes s is) where
     early : List Check

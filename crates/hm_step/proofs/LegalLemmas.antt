@@ -9,11 +9,12 @@ use Rattle.hm_model.specs.Due.{early_checks, first_refusal}
 use Rattle.hm_model.specs.Legal.{IsUndamaged, MayFollow, Setting, call_after, state_after}
 use Rattle.hm_model.specs.Reply.{is_refusal}
 use Rattle.hm_model.specs.declared.command.Command.{Command}
-use Rattle.hm_model.specs.declared.command.Command.TheVariants.{Cat, Fill, Ln, Ls, MirrorWrite, Mkdir, Mv, Readlink, Rm, Rmdir, Snapshot, Stat, Symlink, Touch, Truncate, Write}
+use Rattle.hm_model.specs.declared.command.Command.TheVariants.{Cat, Fill, Ln, Ls, MirrorWrite, Mkdir, Mv, Readlink, Rm, Rmdir, Snapshot, Stat, Symlink, Touch, Truncate, Write, PfsMaster, PfsSlave, PfsStatus, Prune, PruneAll}
 use Rattle.hm_model.specs.declared.reply.Reply.{Reply}
 use Rattle.hm_model.specs.declared.reply.Reply.TheVariants.{Damaged}
 use Rattle.hm_model.proofs.MadeLemmas.{last_known}
-use Rattle.hm_calls.specs.Commands.{IsOnTrees}
+use Rattle.hm_calls.specs.Answered.{IsAnswerable, reply_in}
+use Rattle.hm_calls.specs.declared.answered.Answered.{Answered}
 use Rattle.hm_step.specs.Served.{IsServed}
 use Rattle.hm_step.specs.Step.{IsFailure, IsNext}
 use Rattle.hm_step.proofs.GivenLemmas.{IsPlain, failure_possible}
@@ -23,28 +24,33 @@ use Rattle.hm_step.proofs.EventLemmas.{served_no_opening}
 use Rattle.hm_step.proofs.HistoryLemmas.{allowed, allowed_failed, failure_refuses, lands}
 
 -- such a call takes no stream
-served_take_none : (event : Event) → IsOnTrees event.entry.call → takes_stream event.entry ≡ true → ⊥
-served_take_none event of_trees takes = by event.entry.call of_trees takes where
-  by : (command : Command) → IsOnTrees command → (elim command as (λ c. Bool) [
+served_take_none : (event : Event) → IsAnswerable event.entry.call → takes_stream event.entry ≡ true → ⊥
+served_take_none event answers takes = by event.entry.call answers takes where
+  by : (command : Command) → IsAnswerable command → (elim command as (λ c. Bool) [
     | MirrorWrite path ↦ if is_refusal event.entry.reply then false else true
     | other ↦ false
   ]) ≡ true → ⊥
-  by (Mkdir path) of_trees is = cc
-  by (Touch path) of_trees is = cc
-  by (Symlink target path) of_trees is = cc
-  by (Snapshot path) of_trees is = cc
-  by (Ln old new) of_trees is = cc
-  by (Mv old new) of_trees is = cc
-  by (Write path offset bytes) of_trees is = cc
-  by (Fill path offset count byte) of_trees is = cc
-  by (Truncate path size) of_trees is = cc
-  by (Rm path) of_trees is = cc
-  by (Rmdir path) of_trees is = cc
-  by (Ls path) of_trees is = cc
-  by (Cat path offset count) of_trees is = cc
-  by (Stat path) of_trees is = cc
-  by (Readlink path) of_trees is = cc
-  by other of_trees is = of_trees
+  by (Mkdir path) answers is = cc
+  by (Touch path) answers is = cc
+  by (Symlink target path) answers is = cc
+  by (Snapshot path) answers is = cc
+  by (Ln old new) answers is = cc
+  by (Mv old new) answers is = cc
+  by (Write path offset bytes) answers is = cc
+  by (Fill path offset count byte) answers is = cc
+  by (Truncate path size) answers is = cc
+  by (Rm path) answers is = cc
+  by (Rmdir path) answers is = cc
+  by (Ls path) answers is = cc
+  by (Cat path offset count) answers is = cc
+  by (Stat path) answers is = cc
+  by (Readlink path) answers is = cc
+  by (Prune path) answers is = cc
+  by (PruneAll path) answers is = cc
+  by (PfsMaster path shared) answers is = cc
+  by (PfsSlave path shared) answers is = cc
+  by (PfsStatus path) answers is = cc
+  by other answers is = answers
 
 plain_undamaged : (reply : Reply) → IsPlain reply → IsUndamaged reply
 plain_undamaged (Damaged at kind) is = absurd is
@@ -84,16 +90,17 @@ module _ (run : Setting) (before : List Event) (event : Event) (free : ℕ) (es 
     numbers = numbers;
   }
 
-  module _ (room : ℕ → ℕ) (es' : List FullElement) (served : IsServed (call_after run before event) room free es es' event.entry.reply) where
+  module _ (room : ℕ → ℕ) (es' : List FullElement) (answered : Answered) (reply_same : event.entry.reply ≡ reply_in answered)
+      (served : IsServed (call_after run before event) room free es es' answered) where
     due_is : IsPossible (first_refusal (early_checks call.volume.last call.busy call.command call.paths)) (possible call.command call.paths)
         event.entry.reply × IsPlain event.entry.reply
-    due_is = possible_is call next.served next.left room free event.entry.reply served.due
+    due_is = possible_is call next.served next.left room free event.entry.reply (reply_same ∙ served.due)
 
     pub may_follow : MayFollow run before event
     may_follow = record {
       caused = caused due_is.0 (plain_numbers run.now known event.entry due_is.1);
-      allowed = λ certain. allowed run before event room free es es' next served;
-      lands = lands run before event room free es es' next served;
+      allowed = λ certain. allowed run before event room free es es' answered next reply_same served;
+      lands = lands run before event room free es es' answered next reply_same served;
       fed = λ takes. absurd (served_take_none event next.served takes);
       undamaged = plain_undamaged event.entry.reply due_is.1;
     }

@@ -24,3 +24,7 @@ pub mod JobLemmas
 pub mod RecordLemmas
 pub mod CutLemmas
 pub mod AddedLemmas
+pub mod SystemNumberLemmas
+pub mod OpenedLemmas
+pub mod FoundedLemmas
+pub mod UsedLemmas

@@ -145,6 +145,7 @@ module _ (es : List FullElement) (volume : Volume) (stand : StandFor es volume) 
     records = record { each = stand.records.each; no_other = stand.records.no_other };
     drawn = omega (arith, left);
     own = stand.own;
+    numbers = stand.numbers;
     of_systems = stand.of_systems;
     ids = λ pfs s is. ids_next pfs s (stand.ids pfs s is);
     begun = stand.begun;

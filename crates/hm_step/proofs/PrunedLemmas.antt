@@ -208,6 +208,7 @@ module _ (kept : ℕ → Option (List (ℕ × ℕ))) (es es' : List FullElement)
     records = records_left;
     drawn = stand.drawn;
     own = stand.own;
+    numbers = stand.numbers;
     of_systems = left_all OfSystem stand.of_systems;
     ids = λ pfs s found. ids_left pfs s (stand.ids pfs s found);
     begun = stand.begun;

@@ -17,7 +17,7 @@ use Rattle.hm_model.specs.declared.reply.Reply.TheVariants.{NoSpace}
 use Rattle.hm_model.proofs.CheckLemmas.{refusal_refuses}
 use Rattle.hm_records.proofs.MemberLemmas.{has_head}
 use Rattle.hm_calls.specs.Due.{due_over, lacking, refusal_over, space_left}
-use Rattle.hm_calls.specs.Commands.{IsOnTrees}
+use Rattle.hm_calls.specs.Answered.{IsAnswerable}
 
 -- the first of some checks that fails is the first of more
 pub first_front : (xs ys : List Check) (r : Reply) → first_refusal xs ≡ Some r → first_refusal (xs ++ ys) ≡ Some r
@@ -74,7 +74,7 @@ module _ (call : Call) (room : ℕ → ℕ) (free : ℕ) where
       ((length (zone ∷ zs), held), has_head _ [], record { some = omega (arith, less); most = few; lack = less })
 
   -- a call that is answered is accepted with the reply that is due
-  accepted_served : (least : ℕ) (command : Command) (reply : Reply) → IsOnTrees command → reply ≡ accepted call
+  accepted_served : (least : ℕ) (command : Command) (reply : Reply) → IsAnswerable command → reply ≡ accepted call
       → (elim command as (λ c. Type 0) [
         | Sync ↦ IsSynced reply
         | Synctid ↦ IsSynced reply
@@ -82,18 +82,18 @@ module _ (call : Call) (room : ℕ → ℕ) (free : ℕ) where
         | Progress ↦ ⊥
         | other ↦ reply ≡ accepted call
       ])
-  accepted_served least Sync reply of_trees is = absurd of_trees
-  accepted_served least Synctid reply of_trees is = absurd of_trees
-  accepted_served least Df reply of_trees is = absurd of_trees
-  accepted_served least Progress reply of_trees is = absurd of_trees
-  accepted_served least other reply of_trees is = is
+  accepted_served least Sync reply answers is = absurd answers
+  accepted_served least Synctid reply answers is = absurd answers
+  accepted_served least Df reply answers is = absurd answers
+  accepted_served least Progress reply answers is = absurd answers
+  accepted_served least other reply answers is = is
 
-  pub reply_is_allowed : (least : ℕ) (reply : Reply) → IsOnTrees call.command → least ≤ free → reply ≡ due_over call room free
+  pub reply_is_allowed : (least : ℕ) (reply : Reply) → IsAnswerable call.command → least ≤ free → reply ≡ due_over call room free
       → IsReply least call reply
-  reply_is_allowed least reply of_trees enough due = elim way [
+  reply_is_allowed least reply answers enough due = elim way [
     | refused r is same ↦ inl (subst (λ (o : Check). IsDue least call o reply) (sym is) (due ∙ same))
     | lacks none less same ↦ inr (subst (IsException least call) (sym (due ∙ same)) (none, may_lack zones less, enough))
-    | serves none same ↦ inl (subst (λ (o : Check). IsDue least call o reply) (sym none) (accepted_served least call.command reply of_trees (due ∙ same)))
+    | serves none same ↦ inl (subst (λ (o : Check). IsDue least call o reply) (sym none) (accepted_served least call.command reply answers (due ∙ same)))
   ]
 
   -- what is accepted, no check refuses

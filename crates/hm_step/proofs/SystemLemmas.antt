@@ -19,6 +19,9 @@ use Rattle.hm_model.specs.declared.command.Command.TheVariants.{PfsMaster, PfsSl
 use Rattle.hm_model.proofs.ChangeLemmas.{versioned}
 use Rattle.hm_model.proofs.GrowthLemmas.{KeepsNumber, changed_in, found-changed, found-other, found_in, same_or_not}
 use Rattle.hm_records.proofs.MemberLemmas.{All-from_has}
+use Rattle.hm_calls.specs.NewSystems.{system_command}
+use Rattle.hm_calls.specs.declared.new_systems.NewSystem.{NewSystem}
+use Rattle.hm_calls.specs.declared.new_systems.NewSystem.TheVariants.{Master, Slave}
 use Rattle.hm_image.specs.StandFor.{OnEach}
 
 module _ (volume : Volume) (one : ℕ) (f : PseudoFileSystem → PseudoFileSystem) (keeps : KeepsNumber f) where
@@ -119,6 +122,20 @@ none_added call (PfsMaster path shared) adds = absurd (cc)
 none_added call (PfsSlave path shared) adds = absurd (cc)
 none_added call other adds = refl
 
+-- the one that a call adds
+abbrev pub new_one : NewSystem → ℕ → ℕ → ℕ → PseudoFileSystem
+new_one Master number shared i = new_master number shared ((i, root_tree) ∷ [])
+new_one Slave number shared i = new_slave number shared
+
+one_added : (call : Call) (new : NewSystem) (path : List ℕ) (shared : ℕ) (command : Command) → command ≡ system_command new path shared
+    → (elim command as (λ c. Volume) [
+      | PfsMaster path shared ↦ with_system (versioned call) (new_master (new_pfs call.volume) shared ((own_id call, root_tree) ∷ []))
+      | PfsSlave path shared ↦ with_system (versioned call) (new_slave (new_pfs call.volume) shared)
+      | other ↦ versioned call
+    ]) ≡ with_system (versioned call) (new_one new (new_pfs call.volume) shared (own_id call))
+one_added call Master path shared command is = rw is refl
+one_added call Slave path shared command is = rw is refl
+
 -- the new tree
 abbrev pub new_tree : Call → FileTree
 new_tree call = changed call (call.view (changed_pfs call) Now)
@@ -127,3 +144,9 @@ new_tree call = changed call (call.view (changed_pfs call) Now)
 pub changed_one : (call : Call) → adds_pfs call.command ≡ false
     → change call ≡ of_pfs call.volume (changed_pfs call) (add_version (own_id call) (new_tree call))
 changed_one call adds = none_added call call.command adds
+
+-- one that adds a PFS does so beside
+pub changed_two : (call : Call) (new : NewSystem) (path : List ℕ) (shared : ℕ) → call.command ≡ system_command new path shared
+    → change call ≡ with_system (of_pfs call.volume (changed_pfs call) (add_version (own_id call) (new_tree call)))
+    (new_one new (new_pfs call.volume) shared (own_id call))
+changed_two call new path shared is = one_added call new path shared call.command is

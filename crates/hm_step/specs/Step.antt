@@ -13,7 +13,7 @@ use Rattle.hm_model.specs.declared.reply.Reply.{Reply}
 use Rattle.hm_model.specs.declared.reply.Reply.TheVariants.{Media, NoMemory}
 use Rattle.hm_step.specs.Seen.{AreGiven}
 use Rattle.hm_image.specs.StandFor.{StandFor}
-use Rattle.hm_calls.specs.Commands.{IsOnTrees}
+use Rattle.hm_calls.specs.Answered.{IsAnswerable}
 
 -- the volume with its last id drawn
 abbrev pub drawn : ℕ → Volume → Volume
@@ -36,7 +36,7 @@ IsFailure reply = ((before : ℕ) × (after : ℕ) × (reply ≡ Media before af
 -- and it found elements that stand for the volume of the history so far, in whose trees it looked, and no less free
 -- space than that history leaves at least.
 pub record IsNext (run : Setting) (before : List Event) (event : Event) (free : ℕ) (es : List FullElement) : Type 0 where
-  pub served : IsOnTrees event.entry.call
+  pub served : IsAnswerable event.entry.call
   pub own : event.entry.id.0 ≡ own_id (call_after run before event)
   pub left : (state_after run before).volume.last < GREATEST_ID
   pub reads : ReadsPaths (call_after run before event)

@@ -1,9 +1,10 @@
 // What follows from the definitions alone: each function states one law, and does nothing.
-ghost use Rattle.std.specs.Prelude.{◌≡◌, ◌≢◌, ℕ, ◌+◌, ◌^◌, ◌<◌, ◌≤◌, List, [], ◌∷◌, ◌++◌, None, Option, Some, length};
+ghost use Rattle.std.specs.Prelude.{◌≡◌, ◌≢◌, ℕ, true, ◌+◌, ◌^◌, ◌<◌, ◌≤◌, List, [], ◌∷◌, ◌++◌, None, Option, Some, length};
 ghost use Rattle.std.specs.List.{All, Contains};
 ghost use Rattle.hm_types.specs.Elements.{FullElement};
 ghost use Rattle.hm_types.specs.Hash.{name_hash};
-ghost use Rattle.hm_types.specs.declared.limits.TheConstants.{GREATEST_ID, MOST_INTERVALS};
+ghost use Rattle.hm_types.specs.declared.id.Pfs.{Pfs};
+ghost use Rattle.hm_types.specs.declared.limits.TheConstants.{GREATEST_ID, MOST_INTERVALS, MOST_PFS};
 ghost use Rattle.hm_types.specs.Tree.{root_tree};
 ghost use Rattle.hm_cursor.specs.Told.{IsBroken, Lists, fulls};
 ghost use Rattle.hm_key.specs.Element.{pfs_of};
@@ -11,6 +12,7 @@ ghost use Rattle.hm_key.specs.Balance.{LosesDead};
 ghost use Rattle.hm_model.specs.After.{Event, of_pfs, present_only, retaining};
 ghost use Rattle.hm_model.specs.Caused.{Counts, HasCause, HasNumbers, Known, counts_after, known_after, known_at};
 ghost use Rattle.hm_model.specs.Due.{ReadsPaths};
+ghost use Rattle.hm_model.specs.Laws.{adds_pfs};
 ghost use Rattle.hm_model.specs.Legal.{IsAllowed, MayFollow, Setting, call_after, state_after};
 ghost use Rattle.hm_model.specs.Reply.{passed_ids, told_boundary};
 ghost use Rattle.hm_model.specs.Sites.{Parsed, ReadsWords};
@@ -20,15 +22,18 @@ ghost use Rattle.hm_model.specs.Cut.{pruned};
 ghost use Rattle.hm_model.specs.Volume.{PseudoFileSystem, Volume, new_master, shown_id, system_of};
 ghost use Rattle.hm_model.specs.declared.command.Command.{Command};
 ghost use Rattle.hm_model.specs.declared.reply.Reply.{Reply};
+ghost use Rattle.hm_model.specs.declared.reply.Reply.TheVariants.{MadePfs};
 ghost use Rattle.hm_records.specs.Payload.{IsPayload};
 ghost use Rattle.hm_volume.specs.Shown.{ShowsAs};
 ghost use Rattle.hm_calls.specs.Call.{IsCall};
-ghost use Rattle.hm_calls.specs.Commands.{IsOnTrees};
+ghost use Rattle.hm_calls.specs.Answered.{IsAnswerable, reply_in};
 ghost use Rattle.hm_calls.specs.Known.{AreOlderOrSlaves};
 ghost use Rattle.hm_calls.specs.Possible.{MayReply};
+ghost use Rattle.hm_calls.specs.declared.answered.Answered.{Answered};
 ghost use Rattle.hm_pfs.specs.Systems.{AddsMaster, AddsSlave, IsUnusedNumber, made_record, slave_record};
 ghost use Rattle.hm_step.specs.Causes.{IsNextOf, TellsFault};
 ghost use Rattle.hm_step.specs.Cut.{IsCutTo, SetsRecordBy};
+ghost use Rattle.hm_step.specs.Next.{LeadsTo, UsedBelow, opened_after};
 ghost use Rattle.hm_step.specs.Pruned.{KeepsEnough, KeepsWithin, StandAfter, StillKeeps};
 ghost use Rattle.hm_step.specs.Seen.{AreGiven};
 ghost use Rattle.hm_step.specs.Served.{IsServed};
@@ -112,19 +117,19 @@ pub fn a_cut_leaves_what_stands()
 {}
 
 /// A number that a volume does not have is unused among elements that stand for it. Where a pseudo
-/// file system with that number was added by an id that is drawn, they stand for the volume with it:
+/// file system with that number, one that there may be, was added by an id that is drawn, they stand for the volume with it:
 /// a new master shows the root directory from that id on and no object before, and a new slave has no
 /// sync end and no element but its record. What a job keeps is enough if it was.
 pub fn a_new_system_stands_with_the_others()
     ensures unused { (es : List FullElement) (volume : Volume) (pfs : ℕ) → StandFor es volume →
         system_of volume pfs ≡ None → IsUnusedNumber pfs es }
     ensures master { (es es' : List FullElement) (volume : Volume) (pfs shared i : ℕ) →
-        StandFor es volume → system_of volume pfs ≡ None → shared < 2 ^ 64 → 1 ≤ i →
-        i ≤ volume.last → AddsMaster pfs shared i es es' →
+        StandFor es volume → system_of volume pfs ≡ None → shared < 2 ^ 64 → pfs < MOST_PFS →
+        1 ≤ i → i ≤ volume.last → AddsMaster pfs shared i es es' →
         StandAfter volume es' (with_system volume (new_master pfs shared ((i, root_tree) ∷ []))) }
     ensures slave { (es es' : List FullElement) (volume : Volume) (pfs shared i : ℕ) →
-        StandFor es volume → system_of volume pfs ≡ None → shared < 2 ^ 64 → i ≤ volume.last →
-        AddsSlave pfs shared i es es' →
+        StandFor es volume → system_of volume pfs ≡ None → shared < 2 ^ 64 → pfs < MOST_PFS →
+        i ≤ volume.last → AddsSlave pfs shared i es es' →
         StandAfter volume es' (with_system volume (new_slave pfs shared)) }
     ensures alone { (es es' : List FullElement) (volume : Volume) (pfs shared i : ℕ) →
         StandFor es volume → system_of volume pfs ≡ None → AddsSlave pfs shared i es es' →
@@ -144,32 +149,48 @@ pub fn a_prune_begins_with_enough()
         KeepsEnough kept volume }
 {}
 
-/// One step. Where elements stand for the volume of a history, and a call on names or on the bytes of
-/// files is answered as it is due, the elements that it leaves stand for the volume of the history
-/// with this call, what a job keeps is enough if it was, and the call may follow: a legal history goes
-/// on legally.
+/// One step. Where elements stand for the volume of a history, and a call is answered as it is due, the
+/// elements that it leaves stand for the volume of the history with this call, and what a job keeps is
+/// enough if it was. An opening that was accepted is open, and led to what the volume keeps. The call
+/// may follow: a legal history goes on legally.
 pub fn a_served_call_is_a_step()
     ensures stands { (run : Setting) (before : List Event) (event : Event) (room : ℕ → ℕ) (free : ℕ)
-        (es es' : List FullElement) → IsNext run before event free es →
-        IsServed (call_after run before event) room free es es' event.entry.reply → AreHeld es' →
-        StandFor es' (state_after run (before ++ event ∷ [])).volume }
+        (es es' : List FullElement) (answered : Answered) → IsNext run before event free es →
+        event.entry.reply ≡ reply_in answered →
+        IsServed (call_after run before event) room free es es' answered →
+        AreHeld es' → StandFor es' (state_after run (before ++ event ∷ [])).volume }
     ensures jobs { (run : Setting) (before : List Event) (event : Event) (room : ℕ → ℕ) (free : ℕ)
-        (es es' : List FullElement) → IsNext run before event free es →
-        IsServed (call_after run before event) room free es es' event.entry.reply →
-        StillKeeps (state_after run before).volume (state_after run (before ++ event ∷ [])).volume }
-    ensures follows { (run : Setting) (before : List Event) (event : Event) (room : ℕ → ℕ)
-        (free : ℕ) (es es' : List FullElement) → IsNext run before event free es →
-        IsServed (call_after run before event) room free es es' event.entry.reply →
+        (es es' : List FullElement) (answered : Answered) → IsNext run before event free es →
+        event.entry.reply ≡ reply_in answered →
+        IsServed (call_after run before event) room free es es' answered →
+        StillKeeps (state_after run before).volume
+        (state_after run (before ++ event ∷ [])).volume }
+    ensures opened { (run : Setting) (before : List Event) (event : Event) (room : ℕ → ℕ) (free : ℕ)
+        (es es' : List FullElement) (answered : Answered) → IsNext run before event free es →
+        event.entry.reply ≡ reply_in answered →
+        IsServed (call_after run before event) room free es es' answered →
+        (state_after run (before ++ event ∷ [])).opened
+        ≡ opened_after (state_after run before) (call_after run before event) answered }
+    ensures leads { (run : Setting) (before : List Event) (event : Event) (room : ℕ → ℕ) (free : ℕ)
+        (es es' : List FullElement) (answered : Answered) → IsNext run before event free es →
+        event.entry.reply ≡ reply_in answered →
+        IsServed (call_after run before event) room free es es' answered →
+        LeadsTo (state_after run (before ++ event ∷ [])).volume answered }
+    ensures follows { (run : Setting) (before : List Event) (event : Event) (room : ℕ → ℕ) (free : ℕ)
+        (es es' : List FullElement) (answered : Answered) → IsNext run before event free es →
+        event.entry.reply ≡ reply_in answered →
+        IsServed (call_after run before event) room free es es' answered →
         MayFollow run before event }
-    ensures allowed { (run : Setting) (before : List Event) (event : Event) (room : ℕ → ℕ)
-        (free : ℕ) (es es' : List FullElement) → IsNext run before event free es →
-        IsServed (call_after run before event) room free es es' event.entry.reply →
+    ensures allowed { (run : Setting) (before : List Event) (event : Event) (room : ℕ → ℕ) (free : ℕ)
+        (es es' : List FullElement) (answered : Answered) → IsNext run before event free es →
+        event.entry.reply ≡ reply_in answered →
+        IsServed (call_after run before event) room free es es' answered →
         IsAllowed run before event }
 {}
 
 /// Where a device failed in such a call, or memory was refused, and the elements are as they were,
-/// they stand for the volume of the history with this call, what a job keeps is enough if it was, and
-/// the call may follow, if its reply tells counts of faults that were counted.
+/// they stand for the volume of the history with this call, what a job keeps is enough if it was, no
+/// more calls are open, and the call may follow, if its reply tells counts of faults that were counted.
 pub fn a_failed_call_is_a_step()
     ensures stands { (run : Setting) (before : List Event) (event : Event) (free : ℕ)
         (es : List FullElement) → IsNext run before event free es →
@@ -179,6 +200,10 @@ pub fn a_failed_call_is_a_step()
         (es : List FullElement) → IsNext run before event free es →
         IsFailure event.entry.reply →
         StillKeeps (state_after run before).volume (state_after run (before ++ event ∷ [])).volume }
+    ensures opened { (run : Setting) (before : List Event) (event : Event) (free : ℕ)
+        (es : List FullElement) → IsNext run before event free es →
+        IsFailure event.entry.reply →
+        (state_after run (before ++ event ∷ [])).opened ≡ (state_after run before).opened }
     ensures follows { (run : Setting) (before : List Event) (event : Event) (free : ℕ)
         (es : List FullElement) → IsNext run before event free es →
         IsFailure event.entry.reply →
@@ -186,16 +211,27 @@ pub fn a_failed_call_is_a_step()
         MayFollow run before event }
 {}
 
-/// A reply that a call on names or on the bytes of files may have, by its words alone, tells no
-/// boundary.
+/// A number of a pseudo file system that is used stays used, whatever comes next. Where a call that
+/// makes one tells its number, all numbers up to that one are used.
+pub fn numbers_stay_used()
+    ensures stay { (run : Setting) (before : List Event) (event : Event) (numbers : ℕ) →
+        UsedBelow numbers (state_after run before).volume →
+        UsedBelow numbers (state_after run (before ++ event ∷ [])).volume }
+    ensures made { (run : Setting) (before : List Event) (event : Event) (number : Pfs) →
+        adds_pfs event.entry.call ≡ true → event.entry.reply ≡ MadePfs number →
+        MayFollow run before event →
+        UsedBelow (number.0 + 1) (state_after run (before ++ event ∷ [])).volume }
+{}
+
+/// A reply that a call may have, by its words alone, tells no boundary.
 pub fn a_possible_reply_tells_no_boundary()
     ensures { (last : ℕ) (busy : Option ℕ) (command : Command) (paths : List Parsed) (reply : Reply) →
-        IsOnTrees command → ReadsWords command paths → MayReply last busy command reply →
+        IsAnswerable command → ReadsWords command paths → MayReply last busy command reply →
         told_boundary reply ≡ None }
 {}
 
-/// A reply that a call on names or on the bytes of files may have, by its words alone, has its cause
-/// by what is known before it, whatever the elements are. It tells no faults, and no ids of a pass.
+/// A reply that a call may have, by its words alone, has its cause by what is known before it, whatever
+/// the elements are. It tells no faults, and no ids of a pass.
 pub fn a_possible_reply_has_its_cause()
     ensures caused { (now : Counts) (known : Known) (busy : Option ℕ) (event : Event) →
         IsNextOf known event →

@@ -6,41 +6,48 @@ ghost use Rattle.hm_key.specs.Charges.{Charges};
 ghost use Rattle.hm_key.specs.Stores.{Keeps};
 ghost use Rattle.hm_cursor.specs.Told.{HasReadingCause};
 ghost use Rattle.hm_model.specs.Forms.{IsInRange};
-ghost use Rattle.hm_calls.specs.Commands.{IsOnTrees, LowersRoomFor, reserves_for};
+ghost use Rattle.hm_calls.specs.Answered.{IsAnswerable, IsFormOf, reply_in};
+ghost use Rattle.hm_calls.specs.Commands.{LowersRoomFor, reserves_for};
 ghost use Rattle.hm_calls.specs.Known.{AreKnown};
 ghost use Rattle.hm_calls.specs.Possible.{MayReply};
 ghost use Rattle.hm_step.specs.Next.{IsDueOver, IsStep};
 
-use hm_calls::answer;
+use hm_calls::{Answered, Beside, answer_call};
 use hm_dirs::Fnv;
 use hm_key::{ElementStore, Extents, HasElements, HasRoom};
-use hm_model::{Command, Reply};
+use hm_model::Command;
 use hm_types::{Counted, Fault, Id};
 use std::alloc::Global;
 
-/// Answers a call on names or on the bytes of files by the id after `last`, the last one that was
-/// drawn: the reply is a step of each history for whose volume the elements of the store stand, so
-/// that those that it leaves stand for the volume after it. It is the reply that the call is due over
-/// the space of the store: where space lacks, `NoSpace` with what is free and what is needed. Whatever
-/// the store tells, the reply is one that the call may have by its words. What else it promises, and
-/// which faults it has, are those of `answer` of hm_calls. After a fault nothing is known of the
-/// content.
+/// Answers a call by the id after `last`, the last one that was drawn: one on names or on the bytes
+/// of files, `pfs-status`, `pfs-master`, `pfs-slave`, or the opening of `prune` or `prune-everything`.
+/// The answer is a step of each history for whose volume the elements of the store stand, so that
+/// those that it leaves stand for the volume after it. An opening that was accepted is open in that
+/// history, and led to what its volume keeps of the pseudo file system: a job that keeps the same
+/// keeps enough. The histories are those in which `beside.busy` is the mirror or upgrade call that is
+/// open, and all numbers of pseudo file systems below `beside.numbers` are used. The reply is the one
+/// that the call is due over the space of the store: where space lacks, `NoSpace` with what is free and
+/// what is needed. Whatever the store tells, the reply is one that the call may have by its words. What
+/// else it promises, and which faults it has, are those of `answer_call` of hm_calls. After a fault
+/// nothing is known of the content.
 pub fn answer_next<T: ElementStore + Extents>(
     alloc: Global,
     store: &mut T,
     command: &Command,
     last: Id,
-    busy: Option<Id>,
-) -> Result<Reply, Fault>
-    requires command { IsOnTrees command.now × IsInRange command.now }
+    beside: Beside,
+) -> Result<Answered, Fault>
+    requires command { IsAnswerable command.now × IsInRange command.now }
     requires left { last.0 < GREATEST_ID }
     requires balanced { Balanced (T.elements store.old) (T.extents store.old) }
     requires known { AreKnown (T.elements store.old) (T.extents store.old) (last.0 + 1) }
     ensures step { IfOk result (IsStep T.elements T.extents T.free
-        (record { command = command.now; last = last.0; busy = busy }) store.old store.new) }
+        (record { command = command.now; last = last.0; beside = beside }) store.old store.new) }
     ensures due { IfOk result (IsDueOver T.elements T.extents T.room T.free
-        (record { command = command.now; last = last.0; busy = busy }) store.old) }
-    ensures possible { IfOk result (MayReply last.0 (option_map (λ i. i.0) busy) command.now) }
+        (record { command = command.now; last = last.0; beside = beside }) store.old) }
+    ensures possible { IfOk result (λ answered. MayReply last.0
+        (option_map (λ i. i.0) beside.busy) command.now (reply_in answered)) }
+    ensures form { IfOk result (IsFormOf command.now) }
     ensures known { OnOk result (AreKnown (T.elements store.new) (T.extents store.new)
         (last.0 + 2)) }
     ensures keeps { Keeps T.elements T.extents store.old store.new result }
@@ -52,5 +59,5 @@ pub fn answer_next<T: ElementStore + Extents>(
     ensures cause { HasReadingCause (T.elements store.old) (T.extents store.old)
         (T.faults store.old) (T.faults store.new) result }
 {
-    answer(alloc, store, &Fnv, command, Id(last.0 + 1), busy)
+    answer_call(alloc, store, &Fnv, command, Id(last.0 + 1), beside)
 }

@@ -1,4 +1,4 @@
-use Rattle.std.proofs.Common.{◌≡◌, ℕ, List, refl, sym, subst, ◌∙◌}
+use Rattle.std.proofs.Common.{ℕ, refl, sym, subst, ◌∙◌}
 use Rattle.std.proofs.lemmas.Result.{on_ok_weaker}
 use Rattle.hm_key.specs.Balance.{IsBalanced, content_of, full_elements}
 use Rattle.hm_key.specs.Elements.{IsContent}
@@ -14,7 +14,7 @@ use Rattle.hm_calls.specs.Edits.{ChangesBytes, ChangesFile, edited, size_after}
 use Rattle.hm_calls.specs.Known.{AreBelow}
 use Rattle.hm_calls.proofs.CauseLemmas.{reading_cause, store_cause_after}
 use Rattle.hm_calls.proofs.FileLemmas.{all_spent, block_room, blocks_spent, bytes_changed, bytes_older, bytes_older_beside, file_changed, inode_spent}
-use Rattle.hm_calls.proofs.FileLemmas.{none_spent, room_after, there_already}
+use Rattle.hm_calls.proofs.FileLemmas.{room_after, there_already}
 use Rattle.hm_calls.proofs.StepLemmas.{object_older, told_so}
 use Rattle.hm_calls.proofs.files.change_file.Goals as goal
 

@@ -1,4 +1,3 @@
-use Rattle.std.proofs.Common.{◌≡◌}
 use Rattle.hm_calls.proofs.RetentionLemmas.{never_many}
 use Rattle.hm_calls.proofs.kept.keep_from.Goals as goal
 

@@ -1,11 +1,13 @@
-use Rattle.std.proofs.Common.{◌≡◌, ◌∙◌, Err, Ok, ap}
+use Rattle.std.proofs.Common.{◌∙◌, Err, Ok, ap}
 use Rattle.std.proofs.lemmas.Result.{err_from_is_err_and}
 use Rattle.hm_cursor.specs.Told.{OnBalanced, fulls}
 use Rattle.hm_dirs.specs.Walk.{mode_of}
 use Rattle.hm_dirs.proofs.WalkLoopLemmas.{same_twice}
 use Rattle.hm_calls.specs.Call.{OnCalls}
 use Rattle.hm_calls.specs.Prunes.{IsRetainedIn, command_of}
-use Rattle.hm_calls.proofs.PruneLemmas.{Tells, comes_by, gives_cut, gives_later, gives_stopped, known_cut, later_refused, leads_cut, leads_refused, on_by}
+use Rattle.hm_calls.proofs.PruneCheckLemmas.{comes_by, on_by}
+use Rattle.hm_calls.proofs.PruneLemmas.{Tells, gives_cut, gives_later, gives_stopped, later_refused, leads_cut, leads_refused, refused_both}
+use Rattle.hm_calls.proofs.PruneRecordLemmas.{known_cut}
 use Rattle.hm_calls.proofs.StageLemmas.{told_before}
 use Rattle.hm_calls.proofs.prunes.begin_prune.Goals as goal
 
@@ -23,8 +25,9 @@ pub returns-in_err-stand-clause-gives : goal.returns-in_err-stand-clause-gives
 returns-in_err-stand-clause-gives g c =
     let p = err_from_is_err_and c.from_residual.result c.from_residual.ensures.1 in
     gives_stopped c.args.id.0 (command_of c.args.pruning c.args.word.now) c.from_residual.result c.in_err-stand.field-0.0 (p.1 ∙ ap Err p.2)
+    (refused_both c.args.id.0 (command_of c.args.pruning c.args.word.now) c.in_err-stand.field-0.0
     (c.in_err-stand.ensures.gives (command_of c.args.pruning c.args.word.now)
-    (on_by c.args.pruning c.args.word.now (mode_of c.follow.result) c.follow.ensures))
+    (on_by c.args.pruning c.args.word.now (mode_of c.follow.result) c.follow.ensures)) c.in_err-stand.ensures.refuses)
 
 pub returns-in_err-to-clause-leads : goal.returns-in_err-to-clause-leads
 returns-in_err-to-clause-leads g c =

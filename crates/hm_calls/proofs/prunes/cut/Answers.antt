@@ -1,8 +1,8 @@
-use Rattle.std.proofs.Common.{◌≡◌, subst}
+use Rattle.std.proofs.Common.{subst}
 use Rattle.std.specs.Prelude.{IfSome, Option}
 use Rattle.hm_retain.specs.Retention.{IsRetention}
 use Rattle.hm_records.specs.declared.pfs_record.PfsRecord.{PfsRecord}
-use Rattle.hm_calls.proofs.PruneLemmas.{record_room, takes_record}
+use Rattle.hm_calls.proofs.PruneRecordLemmas.{record_room, takes_record}
 use Rattle.hm_calls.proofs.TakeLemmas.{both_stay}
 use Rattle.hm_calls.proofs.prunes.cut.Goals as goal
 

@@ -1,8 +1,8 @@
-use Rattle.std.proofs.Common.{◌≡◌, ◌<◌, ◌^◌, None, Some, subst, arith}
+use Rattle.std.proofs.Common.{subst, arith}
 use Rattle.std.specs.Prelude.{Option}
 use Rattle.hm_cursor.specs.Told.{IsRecordNow, OnBalanced}
 use Rattle.hm_records.specs.declared.pfs_record.PfsRecord.{PfsRecord}
-use Rattle.hm_calls.proofs.PruneLemmas.{present_none, present_some}
+use Rattle.hm_calls.proofs.PruneCheckLemmas.{present_none, present_some}
 use Rattle.hm_calls.proofs.prunes.keep_present.Goals as goal
 
 pub returns-in_default-clause-told : goal.returns-in_default-clause-told

@@ -1,12 +1,12 @@
-use Rattle.std.proofs.Common.{◌≡◌, ◌∙◌, None, Some, Err, ap, subst, sym, arith}
+use Rattle.std.proofs.Common.{◌≡◌, ◌∙◌, Err, ap, subst, arith}
 use Rattle.std.specs.Prelude.{Option}
 use Rattle.std.proofs.lemmas.Bool.Decides.{nat_tests}
 use Rattle.std.proofs.lemmas.Result.{err_from_is_err_and}
 use Rattle.hm_model.specs.declared.command.Command.TheVariants.{Prune}
-use Rattle.hm_model.specs.declared.reply.Reply.TheVariants.{NotDir, TooManyIntervals}
+use Rattle.hm_model.specs.declared.reply.Reply.TheVariants.{NotDir}
 use Rattle.hm_cursor.specs.Told.{IsRecordNow, OnBalanced}
 use Rattle.hm_records.specs.declared.pfs_record.PfsRecord.{PfsRecord}
-use Rattle.hm_calls.specs.Systems.{MayGive}
+use Rattle.hm_calls.specs.Systems.{MayRefuse}
 use Rattle.hm_calls.proofs.PruneLemmas.{may_be_many, may_be_no_directory, may_be_unnamed, may_stop, names_empty, names_gone, names_left, names_many, names_stopped, refusal_each}
 use Rattle.hm_calls.proofs.prunes.name_kept.Goals as goal
 
@@ -21,7 +21,7 @@ pub returns-in_err-check_directory-clause-gives : goal.returns-in_err-check_dire
 returns-in_err-check_directory-clause-gives g c word =
     let p = err_from_is_err_and c.from_residual.result c.from_residual.ensures.1 in
     may_stop (Prune word) c.from_residual.result c.in_err-check_directory.field-0.0 (p.1 ∙ ap Err p.2)
-    (refusal_each (λ reply. reply ≡ NotDir) (MayGive (Prune word)) c.in_err-check_directory.field-0.0 (may_be_no_directory word)
+    (refusal_each (λ reply. reply ≡ NotDir) (MayRefuse (Prune word)) c.in_err-check_directory.field-0.0 (may_be_no_directory word)
     c.in_err-check_directory.ensures.gives)
 
 pub returns-in_default-clause-told : goal.returns-in_default-clause-told
@@ -62,7 +62,7 @@ pub returns-in_err-retention-clause-gives : goal.returns-in_err-retention-clause
 returns-in_err-retention-clause-gives g c word =
     let p = err_from_is_err_and c.from_residual-in_err-retention.result c.from_residual-in_err-retention.ensures.1 in
     may_stop (Prune word) c.from_residual-in_err-retention.result c.in_err-retention.field-0.0 (p.1 ∙ ap Err p.2)
-    (refusal_each _ (MayGive (Prune word)) c.in_err-retention.field-0.0 (λ reply many. may_be_many word reply many.0 many.1)
+    (refusal_each _ (MayRefuse (Prune word)) c.in_err-retention.field-0.0 (λ reply many. may_be_many word reply many.0 many.1)
     c.in_err-retention.ensures.many)
 
 pub returns-clause-told : goal.returns-clause-told

@@ -1,10 +1,10 @@
-use Rattle.std.proofs.Common.{◌≡◌, ◌∙◌, Err, Ok, Some, ap, subst, sym}
+use Rattle.std.proofs.Common.{◌∙◌, Err, Ok, Some, ap, subst, sym}
 use Rattle.std.proofs.lemmas.Result.{err_from_is_err_and}
 use Rattle.hm_model.specs.declared.command.Command.TheVariants.{Prune}
 use Rattle.hm_calls.specs.Call.{OnCalls}
 use Rattle.hm_calls.specs.Prunes.{command_of}
 use Rattle.hm_calls.specs.Stop.{IfRefused}
-use Rattle.hm_calls.specs.Systems.{MayGive}
+use Rattle.hm_calls.specs.Systems.{MayRefuse}
 use Rattle.hm_calls.specs.declared.pruning.Pruning.{Pruning}
 use Rattle.hm_calls.proofs.PruneLemmas.{Tells, may_stop, tells_named, tells_present, tells_stopped}
 use Rattle.hm_calls.proofs.prunes.record_after.Goals as goal
@@ -21,7 +21,7 @@ returns-in_err-record-in-Snapshots-clause-told g c hash word room free few =
 pub returns-in_err-record-in-Snapshots-clause-gives : goal.returns-in_err-record-in-Snapshots-clause-gives
 returns-in_err-record-in-Snapshots-clause-gives g c word =
     let p = err_from_is_err_and c.from_residual.result c.from_residual.ensures.1 in
-    subst (λ (q : Pruning). IfRefused c.from_residual.result (MayGive (command_of q word))) (sym c.in-Snapshots.is)
+    subst (λ (q : Pruning). IfRefused c.from_residual.result (MayRefuse (command_of q word))) (sym c.in-Snapshots.is)
     (may_stop (Prune word) c.from_residual.result c.in_err-record-in-Snapshots.field-0.0 (p.1 ∙ ap Err p.2) (c.in_err-record-in-Snapshots.ensures.gives word))
 
 pub returns-in_ok-record-in-Snapshots-clause-told : goal.returns-in_ok-record-in-Snapshots-clause-told

@@ -37,8 +37,8 @@ returns-in_default-clause-answers g c = (
 
 pub returns-in_default-clause-gives : goal.returns-in_default-clause-gives
 returns-in_default-clause-gives g c =
-    given_later c.args.id.0 (PfsStatus c.args.word.now) NotFound (c.in_ok-end.ensures.early (PfsStatus c.args.word.now) of_status)
-    (record { own = tt; listed = λ paths. (1, omega arith, refl) })
+    given_later c.args.id.0 (PfsStatus c.args.word.now) NotFound tt (c.in_ok-end.ensures.early (PfsStatus c.args.word.now) of_status)
+    (λ paths. (1, omega arith, refl))
 
 pub returns-clause-answers : goal.returns-clause-answers
 returns-clause-answers g c = (
@@ -61,4 +61,4 @@ pub returns-clause-gives : goal.returns-clause-gives
 returns-clause-gives g c =
     given_later c.args.id.0 (PfsStatus c.args.word.now)
     (PfsIs c.in-Some.record.master c.in_ok-end.end.at.pfs c.in-Some.record.shared (length c.pairs.result.now) c.in-Some.record.sync_end)
-    (c.in_ok-end.ensures.early (PfsStatus c.args.word.now) of_status) (record { own = tt; listed = λ paths. (0, omega arith, refl) })
+    tt (c.in_ok-end.ensures.early (PfsStatus c.args.word.now) of_status) (λ paths. (0, omega arith, refl))

@@ -1,14 +1,14 @@
-use Rattle.std.proofs.Common.{◌^◌}
+use Rattle.std.proofs.Common.{◌^◌, Ok}
 use Rattle.std.proofs.lemmas.Result.{on_ok_weaker}
 use Rattle.hm_types.specs.Tree.{without_object}
 use Rattle.hm_cursor.specs.Told.{fulls}
 use Rattle.hm_key.specs.Balance.{IsBalanced}
-use Rattle.hm_cursor.proofs.CallLemmas.{Change, Then, known_after, writes_both, writes_so}
+use Rattle.hm_cursor.proofs.CallLemmas.{Change, Then, known_after, writes_both, writes_ok, writes_so}
 use Rattle.hm_files.specs.Close.{AreOlder, RemovesBytes}
 use Rattle.hm_objects.specs.Objects.{ChangesBy, IsGone}
 use Rattle.hm_calls.specs.Writes.{DropsObject}
 use Rattle.hm_calls.proofs.CauseLemmas.{store_cause_after}
-use Rattle.hm_calls.proofs.DropLemmas.{object_dropped, writes_also}
+use Rattle.hm_calls.proofs.DropLemmas.{object_dropped}
 use Rattle.hm_calls.proofs.FileLemmas.{bytes_older_beside}
 use Rattle.hm_calls.proofs.take.drop_object.Goals as goal
 
@@ -43,7 +43,7 @@ returns-clause-ok g c =
     let (middle, first, second) = steps in
     object_dropped pfs i obj (fulls was) middle es' first.0 first.1 second)
     (writes_both elements extents One Two old mid new
-    (writes_also elements extents Goes Leaves old mid c.in_ok-remove_object.ensures.ok c.in_ok-remove_object.ensures.gone) wrote))
+    (writes_ok elements extents {T = Unit {0}} {E = Unit {0}} Goes Leaves old mid (Ok tt) c.in_ok-remove_object.ensures.ok c.in_ok-remove_object.ensures.gone) wrote))
     c.remove_bytes.ensures.ok
 
 pub returns-clause-cause : goal.returns-clause-cause

@@ -1,4 +1,4 @@
-use Rattle.hm_step.proofs.HistoryLemmas.{keeps_failed, stands_failed}
+use Rattle.hm_step.proofs.HistoryLemmas.{keeps_failed, opened_failed, stands_failed}
 use Rattle.hm_step.proofs.LegalLemmas.{may_follow_failed}
 use Rattle.hm_step.proofs.laws.a_failed_call_is_a_step.Goals as goal
 
@@ -10,3 +10,6 @@ returns-clause-jobs c = λ run before event free es next fails. keeps_failed run
 
 pub returns-clause-follows : goal.returns-clause-follows
 returns-clause-follows c = λ run before event free es next fails numbers. may_follow_failed run before event free es next fails numbers
+
+pub returns-clause-opened : goal.returns-clause-opened
+returns-clause-opened c = λ run before event free es next fails. opened_failed run before event free es next fails
