@@ -19,24 +19,30 @@ use Rattle.hm_model.specs.Volume.{Volume}
 use Rattle.hm_model.specs.declared.entry.Entry.{Entry}
 use Rattle.hm_model.specs.declared.reply.Reply.{Reply}
 use Rattle.hm_model.proofs.EventLemmas.{IsLegal-goes_on, known_after-push}
-use Rattle.hm_calls.specs.Replies.{is_change}
+use Rattle.hm_calls.specs.Answered.{IsFormOf}
+use Rattle.hm_calls.specs.declared.answered.Answered.{Answered}
+use Rattle.hm_calls.specs.declared.answered.Answered.TheVariants.{Opened, Replied}
 use Rattle.hm_image.specs.StandFor.{StandFor}
 use Rattle.hm_stored.specs.Heap.{Heap}
 use Rattle.hm_stored.specs.Standing.{Holds}
-use Rattle.hm_step.specs.Next.{GoesOn, IsEventOf, StandIfFit}
+use Rattle.hm_step.specs.Next.{Asked, GoesOn, IsEventOf, LeadsTo, StandIfFit, UsedBelow, opened_after}
 use Rattle.hm_step.specs.Seen.{AreGiven}
 use Rattle.hm_step.specs.Step.{IsFailure, IsNext}
-use Rattle.hm_step.proofs.HistoryLemmas.{allowed_failed, stands_failed}
+use Rattle.hm_step.proofs.HistoryLemmas.{allowed_failed, keeps_failed, opened_failed, stands_failed}
 use Rattle.hm_step.proofs.LegalLemmas.{may_follow_failed}
 use Rattle.hm_step.proofs.SubstituteLemmas.{trees_given}
+use Rattle.hm_core.specs.Answer.{running_after}
 use Rattle.hm_core.specs.Calls.{Fails, IsNextCall, Serves}
 use Rattle.hm_core.specs.Counts.{AreLater}
 use Rattle.hm_core.specs.History.{HoldsState, IsLegalBeyond, IsLegalOver, setting_of}
+use Rattle.hm_core.specs.Open.{AreOpen}
+use Rattle.hm_core.specs.State.{OpenPrune}
+use Rattle.hm_core.specs.Told.{told_beside}
 use Rattle.hm_core.proofs.CountLemmas.{NumbersOf, later_still, legal_later, told_most}
-use Rattle.hm_core.proofs.StateLemmas.{holds_after, served_state}
+use Rattle.hm_core.proofs.StateLemmas.{IsNextTo, holds_after, open_more, open_same, served_next}
 use Rattle.hm_core.proofs.WordLemmas.{words_are_read}
 
-module _ (free : ℕ) (start faults faults' : Counts) (history : List Entry) (h : Heap) (root last : ℕ) (running : List ℕ) (opening : Volume)
+module _ (free : ℕ) (start faults faults' : Counts) (history : List Entry) (h : Heap) (root last : ℕ) (running : List OpenPrune) (opening : Volume)
     (foreigners : Foreigners) (events : List Event) (so_far : IsLegalOver free start faults history h root last running opening foreigners events)
     (counted : AreLater faults faults') where
   -- the run with the count of now, and what it has come to
@@ -56,10 +62,10 @@ module _ (free : ℕ) (start faults faults' : Counts) (history : List Entry) (h 
   told_now : AreLater known.counts faults'
   told_now = later_still known.counts faults faults' so_far.counted counted
 
-  pub goes_on : (event : Event) (h' : Heap) (root' : ℕ) → MayFollow run events event
-      → HoldsState h' root' (last + 1) running (state_after run (events ++ event ∷ []))
-      → IsLegalOver free start faults' (history ++ event.entry ∷ []) h' root' (last + 1) running opening foreigners (events ++ event ∷ [])
-  goes_on event h' root' follows held = record {
+  pub goes_on : (event : Event) (h' : Heap) (root' : ℕ) (running' : List OpenPrune) → MayFollow run events event
+      → HoldsState h' root' (last + 1) running' (state_after run (events ++ event ∷ []))
+      → IsLegalOver free start faults' (history ++ event.entry ∷ []) h' root' (last + 1) running' opening foreigners (events ++ event ∷ [])
+  goes_on event h' root' running' follows held = record {
     entries = map-append (λ (e : Event). e.entry) events (event ∷ []) ∙ ap (λ (es : List Entry). es ++ event.entry ∷ []) so_far.entries;
     legal = IsLegal-goes_on run events event legal follows;
     counted = subst (λ (k : Known). AreLater k.counts faults') (sym (known_after-push (known_at opening.last start) events event))
@@ -109,51 +115,73 @@ module _ (free : ℕ) (start faults faults' : Counts) (history : List Entry) (h 
       least = enough;
     }
 
-    -- the space that came of a call holds the state after it
-    next_held : (h' : Heap) (root' : ℕ) (now : List FullElement) → h'.bigblocks ≡ h.bigblocks → Holds h' root' now
+    -- the space that came of a call holds the state after it, with these prunes open
+    next_held : (h' : Heap) (root' : ℕ) (running' : List OpenPrune) (now : List FullElement) → h'.bigblocks ≡ h.bigblocks → Holds h' root' now
         → StandFor now (state_after run (events ++ event ∷ [])).volume → IsAllowed run events event
-        → HoldsState h' root' (last + 1) running (state_after run (events ++ event ∷ []))
-    next_held h' root' now same holds stand allowed =
-        holds_after h h' root root' last running state (state_after run (events ++ event ∷ [])) (is_change entry.call entry.reply) call now
-        so_far.held refl (served_state run events event is.served own allowed) same holds stand
+        → AreOpen running' (state_after run (events ++ event ∷ [])) → HoldsState h' root' (last + 1) running' (state_after run (events ++ event ∷ []))
+    next_held h' root' running' now same holds stand allowed opened =
+        holds_after h h' root root' last running running' state (state_after run (events ++ event ∷ [])) call now so_far.held refl
+        (served_next run events event is.served own allowed) same holds stand opened
 
     -- a store served it
     module _ {S : Type 0} (elements_of : S → Option (List Element)) (extents_of : S → Option (List Extent)) (free_of : S → ℕ)
-        (old new : S) (h' : Heap) (root' : ℕ)
-        (serves : Serves elements_of extents_of free_of (floor free history) last entry old new h h' root root') where
-      of_event : IsEventOf (record { command = entry.call; last = last; busy = None }) entry.reply run events event
+        (numbers : ℕ) (used : UsedBelow numbers state.volume) (answered : Answered) (old new : S) (h' : Heap) (root' : ℕ)
+        (serves : Serves elements_of extents_of free_of (floor free history) numbers last entry answered old new h h' root root')
+        (form : IsFormOf entry.call answered) where
+      abbrev asked : Asked
+      asked = record { command = entry.call; last = last; beside = told_beside numbers }
+
+      abbrev after : State
+      after = state_after run (events ++ event ∷ [])
+
+      of_event : IsEventOf asked answered run events event
       of_event = record {
         command_is = refl;
-        reply_is = refl;
+        reply_is = serves.reply_is;
         last_is = sym so_far.held.holds.last_is;
         busy_is = so_far.held.opened.idle;
+        numbers = used;
       }
 
-      stepped : GoesOn run events event (elements_of new) (extents_of new)
+      stepped : GoesOn run events event answered (elements_of new) (extents_of new)
       stepped = by (content_of (elements_of old) (extents_of old)) (serves.told es so_far.held.holds.elements.1) serves.step where
         by : (o : Option Lists) → IsSomeAnd o (λ was. IsBalanced was.0 was.1 × (fulls was ≡ es))
             → IfSome o (λ was. IsBalanced was.0 was.1 → (r : Setting) (before : List Event) (e : Event)
-            → IsEventOf (record { command = entry.call; last = last; busy = None }) entry.reply r before e
-            → IsNext r before e (free_of old) (fulls was) → GoesOn r before e (elements_of new) (extents_of new))
-            → GoesOn run events event (elements_of new) (extents_of new)
+            → IsEventOf asked answered r before e → IsNext r before e (free_of old) (fulls was)
+            → GoesOn r before e answered (elements_of new) (extents_of new))
+            → GoesOn run events event answered (elements_of new) (extents_of new)
         by None told each = absurd told
         by (Some was) told each =
             each told.0 run events event of_event
             (subst (λ (l : List FullElement). IsNext run events event (free_of old) l) (sym told.1)
             (next (free_of old) (floor_next (free_of old) serves.found)))
 
-      held : HoldsState h' root' (last + 1) running (state_after run (events ++ event ∷ []))
+      comes : IsNextTo call after
+      comes = served_next run events event is.served own stepped.allowed
+
+      -- what is open afterwards
+      are_open : AreOpen (running_after entry answered running) after
+      are_open = by answered stepped.opened stepped.leads form where
+        by : (a : Answered) → after.opened ≡ opened_after state call a → LeadsTo after.volume a → IsFormOf entry.call a
+            → AreOpen (running_after entry a running) after
+        by (Replied reply) same leads form_is =
+            open_same running state after same stepped.jobs (let last_is = comes.last in omega (arith, last_is)) so_far.held.opened
+        by (Opened led) same leads form_is =
+            open_more running state after call entry led form_is refl own comes.last same leads stepped.jobs so_far.held.opened
+
+      held : HoldsState h' root' (last + 1) (running_after entry answered running) after
       held = by (content_of (elements_of new) (extents_of new)) refl stepped.stands where
         by : (o : Option Lists) → content_of (elements_of new) (extents_of new) ≡ o
-            → IsSomeAnd o (λ now. IsBalanced now.0 now.1 × StandIfFit now (state_after run (events ++ event ∷ [])).volume)
-            → HoldsState h' root' (last + 1) running (state_after run (events ++ event ∷ []))
+            → IsSomeAnd o (λ now. IsBalanced now.0 now.1 × StandIfFit now after.volume)
+            → HoldsState h' root' (last + 1) (running_after entry answered running) after
         by None told stands = absurd stands
         by (Some now) told stands =
             let there = serves.holds now told stands.0 in
-            next_held h' root' (fulls now) serves.size there.holds (stands.1 there.fit) stepped.allowed
+            next_held h' root' (running_after entry answered running) (fulls now) serves.size there.holds (stands.1 there.fit) stepped.allowed are_open
 
-      pub served_call : IsLegalBeyond free start faults' (history ++ entry ∷ []) h' root' (last + 1) running opening foreigners events
-      served_call = (event ∷ [], goes_on event h' root' stepped.follows held)
+      pub served_call : IsLegalBeyond free start faults' (history ++ entry ∷ []) h' root' (last + 1) (running_after entry answered running) opening
+          foreigners events
+      served_call = (event ∷ [], goes_on event h' root' (running_after entry answered running) stepped.follows held)
 
     -- the device failed in it, or memory was refused
     module _ (h' : Heap) (root' : ℕ) (failed : Fails faults.disk faults'.disk entry h h' root root') where
@@ -178,10 +206,16 @@ module _ (free : ℕ) (start faults faults' : Counts) (history : List Entry) (h 
       at_least : IsNext run events event least es
       at_least = next least (omega arith)
 
+      failed_open : AreOpen running (state_after run (events ++ event ∷ []))
+      failed_open =
+          let next_is = served_next run events event is.served own (allowed_failed run events event least es at_least fails) in
+          open_same running state (state_after run (events ++ event ∷ [])) (opened_failed run events event least es at_least fails)
+          (keeps_failed run events event least es at_least fails) (let last_is = next_is.last in omega (arith, last_is)) so_far.held.opened
+
       pub failed_call : IsLegalBeyond free start faults' (history ++ entry ∷ []) h' root' (last + 1) running opening foreigners events
       failed_call = (
         event ∷ [],
-        goes_on event h' root' (may_follow_failed run events event least es at_least fails numbers)
-            (next_held h' root' es failed.size (failed.holds es so_far.held.holds.elements.1)
-            (stands_failed run events event least es at_least fails) (allowed_failed run events event least es at_least fails)),
+        goes_on event h' root' running (may_follow_failed run events event least es at_least fails numbers)
+            (next_held h' root' running es failed.size (failed.holds es so_far.held.holds.elements.1)
+            (stands_failed run events event least es at_least fails) (allowed_failed run events event least es at_least fails) failed_open),
       )

@@ -31,10 +31,9 @@ module _ (past since : LeftSince) (old new : CoreState) (opening : Volume) (fore
 
 -- and by those of two steps, one after the other
 module _ (past mid since : LeftSince) (a b c : CoreState) (drawn : a.last ≤ b.last) (later : b.last ≤ c.last) (settled : a.boundary ≤ b.boundary) where
-  pub goes_on_further : GoesOnOverEach past mid a b → GoesOnOverEach mid since b c → GoesOnOverEach past since a c
-  goes_on_further first second opening foreigners events stands =
-      let half = first opening foreigners events stands in
-      let end = second opening foreigners (events ++ half.more) half.stands in
+  pub goes_on_by_two : (opening : Volume) (foreigners : Foreigners) (events : List Event) (half : GoesOnBy past mid a b opening foreigners events)
+      → GoesOnBy mid since b c opening foreigners (events ++ half.more) → GoesOnBy past since a c opening foreigners events
+  goes_on_by_two opening foreigners events half end =
       let all = (events ++ half.more) ++ end.more in
       let joined : all ≡ events ++ (half.more ++ end.more) = append_assoc events half.more end.more in
       let within = IsBetween a.boundary c.last in
@@ -53,6 +52,11 @@ module _ (past mid since : LeftSince) (a b c : CoreState) (drawn : a.last ≤ b.
             (λ boundary between. ((let from = between.0 in omega (arith, from, settled)), between.1)) (λ boundary between. refl)
             (end.crashed (half.guarded was))));
       }
+
+  pub goes_on_further : GoesOnOverEach past mid a b → GoesOnOverEach mid since b c → GoesOnOverEach past since a c
+  goes_on_further first second opening foreigners events stands =
+      let half = first opening foreigners events stands in
+      goes_on_by_two opening foreigners events half (second opening foreigners (events ++ half.more) half.stands)
 
 -- a core follows itself, also with other room in its history
 pub follows_spare : (past : LeftSince) (core : CoreState) (spare : ℕ) → IsSoundCore core → Follows past past core (record core { spare = spare })

@@ -1,7 +1,7 @@
 -- The ids of the elements of a tree fit 8 bytes, since its nodes are bytes.
 use Rattle.std.proofs.Common.{◌≡◌, Bool, true, false, ℕ, zero, suc, ◌+◌, ◌^◌, ◌<◌, eqb, Option, None, Some, List, [], ◌∷◌, map, refl, subst, arith}
 use Rattle.std.specs.Prelude.{IsSome, IsSomeAnd, if◌then◌else◌}
-use Rattle.std.specs.List.{All, AllByRecursion}
+use Rattle.std.specs.List.{All, AllByRecursion, Contains}
 use Rattle.std.proofs.lemmas.List.Elements.{All-contains, All-from_recursion}
 use Rattle.byteorder.specs.Numbers.{little_from-lt}
 use Rattle.hm_types.specs.Elements.{FullElement}
@@ -10,6 +10,8 @@ use Rattle.hm_types.specs.declared.zone.TheConstants.{TREE_ZONE}
 use Rattle.hm_disk.specs.Crash.{Told}
 use Rattle.hm_fields.specs.Fields.{AreBytes, get}
 use Rattle.hm_fields.specs.Pages.{PageMap, page_in}
+use Rattle.hm_key.specs.Elements.{element_key}
+use Rattle.hm_key.specs.Key.{IsWide}
 use Rattle.hm_key.specs.Versions.{IsBelow}
 use Rattle.hm_key.specs.declared.element.Element.{Element}
 use Rattle.hm_node.specs.Base.{base_in}
@@ -31,18 +33,35 @@ use Rattle.hm_stored.specs.Heap.{Heap}
 use Rattle.hm_stored.specs.Standing.{Holds, HoldsBy}
 use Rattle.hm_core.specs.Told.{ArePages}
 
--- both ids of an element fit 8 bytes
+-- the fields of an element's key are as wide as those of a base, and the id that closed it fits 8 bytes
 record IsLow (e : Element) : Type 0 where
-  create : e.base.create < 2 ^ 64
+  wide : IsWide (element_key e)
   delete : e.base.delete < 2 ^ 64
 
 get_low : (page : List ℕ) (at : ℕ) → AreBytes page → get page at 8 < 2 ^ 64
 unfolding get
 get_low page at small = (let low = little_from-lt at 8 page (λ k. let byte = small k in omega (arith, byte)) in omega (arith, low))
 
+get_mid : (page : List ℕ) (at : ℕ) → AreBytes page → get page at 4 < 2 ^ 32
+unfolding get
+get_mid page at small = (let low = little_from-lt at 4 page (λ k. let byte = small k in omega (arith, byte)) in omega (arith, low))
+
+get_few : (page : List ℕ) (at : ℕ) → AreBytes page → get page at 2 < 2 ^ 16
+unfolding get
+get_few page at small = (let low = little_from-lt at 2 page (λ k. let byte = small k in omega (arith, byte)) in omega (arith, low))
+
 element_low : (page : List ℕ) (at : ℕ) → AreBytes page → IsLow (element_in page at)
 unfolding element_in base_in
-element_low page at small = record { create = get_low page (at + 16) small; delete = get_low page (at + 24) small }
+element_low page at small = record {
+  wide = record {
+    localization = get_mid page (at + 36) small;
+    obj = get_low page at small;
+    rec_type = get_few page (at + 32) small;
+    number = get_low page (at + 8) small;
+    create = get_low page (at + 16) small;
+  };
+  delete = get_low page (at + 24) small;
+}
 
 first_low : (page : List ℕ) (n : ℕ) → AreBytes page → AllByRecursion IsLow (first (λ i. element_in page (place i)) n)
 unfolding first
@@ -82,9 +101,9 @@ module _ (pages : PageMap) (bytes : (at : ℕ) (page : List ℕ) → pages at �
 
 -- with their payloads
 fulls_low : (image : List ℕ) (es : List Element) → AllByRecursion IsLow es
-    → AllByRecursion (λ (x : FullElement). (x.key.create < 2 ^ 64) × (x.delete < 2 ^ 64)) (map (full_of image) es)
+    → AllByRecursion (λ (x : FullElement). IsWide x.key × (x.delete < 2 ^ 64)) (map (full_of image) es)
 fulls_low image [] low = tt
-fulls_low image (e ∷ es) low = ((low.0.create, low.0.delete), fulls_low image es low.1)
+fulls_low image (e ∷ es) low = ((low.0.wide, low.0.delete), fulls_low image es low.1)
 
 -- the ids of all that a space holds fit 8 bytes, where its pages are bytes
 module _ (h : Heap) (root : ℕ) (pages : ArePages h) where
@@ -95,20 +114,24 @@ module _ (h : Heap) (root : ℕ) (pages : ArePages h) where
     by false is = absurd (cc)
 
   abbrev Fits : FullElement → Type 0
-  Fits x = (x.key.create < 2 ^ 64) × (x.delete < 2 ^ 64)
+  Fits x = IsWide x.key × (x.delete < 2 ^ 64)
 
-  by_disk : (o : Option Told) (es : List FullElement) → IsSomeAnd o (λ t. HoldsBy h root t.bytes es) → IsBelow (2 ^ 64) es
+  by_disk : (o : Option Told) (es : List FullElement) → IsSomeAnd o (λ t. HoldsBy h root t.bytes es) → (x : FullElement) → Contains es x → Fits x
   by_disk None es is = absurd is
-  by_disk (Some t) es is = subst (IsBelow (2 ^ 64)) is.elements (record {
-    made = λ x there. (All-contains Fits held x each there).0;
-    closed = λ x there. (All-contains Fits held x each there).1;
-  }) where
-    held : List FullElement
-    held = map (full_of t.bytes) (elements_of (nodes h.pages.current) root)
+  by_disk (Some t) es is =
+      subst (λ (l : List FullElement). (x : FullElement) → Contains l x → Fits x) is.elements (λ x there. All-contains Fits held x each there) where
+        held : List FullElement
+        held = map (full_of t.bytes) (elements_of (nodes h.pages.current) root)
 
-    each : All Fits held
-    each = All-from_recursion Fits held (fulls_low t.bytes (elements_of (nodes h.pages.current) root)
-        (elements_low (nodes h.pages.current) node_bytes root is.firm.tree.sound))
+        each : All Fits held
+        each = All-from_recursion Fits held (fulls_low t.bytes (elements_of (nodes h.pages.current) root)
+            (elements_low (nodes h.pages.current) node_bytes root is.firm.tree.sound))
 
   pub held_fit : (es : List FullElement) → Holds h root es → IsBelow (2 ^ 64) es
-  held_fit es holds = by_disk h.disk es holds
+  held_fit es holds = record {
+    made = λ x there. (by_disk h.disk es holds x there).0.create;
+    closed = λ x there. (by_disk h.disk es holds x there).1;
+  }
+
+  pub held_wide : (es : List FullElement) → Holds h root es → (x : FullElement) → Contains es x → IsWide x.key
+  held_wide es holds x there = (by_disk h.disk es holds x there).0

@@ -9,7 +9,7 @@ use Rattle.hm_flush.specs.Ends.{as_read}
 use Rattle.hm_flush.proofs.KeptLemmas.{stands-still-there}
 use Rattle.hm_model.specs.Volume.{Volume}
 use Rattle.hm_pages.specs.Calls.{IsSameFlush}
-use Rattle.hm_stored.specs.Heap.{Frame, Heap, content_of, frame_of}
+use Rattle.hm_stored.specs.Heap.{Frame, Heap, begun_content, frame_of}
 use Rattle.hm_state.specs.Flushing.{HoldsFlush}
 use Rattle.hm_state.proofs.CommittedLemmas.{slots_same}
 use Rattle.hm_state.proofs.FlushKeptLemmas.{holds_same_flush, read_kept, told_kept}
@@ -65,7 +65,7 @@ module _ (a b : Heap) (frame : frame_of b ≡ frame_of a) where
     by (Some s) None was is size = absurd cc
     by (Some s) (Some t) was is size = step s t was is
 
-  pub kept_framed : KeepsFlush (IsSome (content_of a)) a b
+  pub kept_framed : KeepsFlush (IsSome (begun_content a)) a b
   kept_framed = record {
     bigblocks = ap (λ (f : Frame). f.bigblocks) frame;
     pages = record {

@@ -4,13 +4,13 @@ use Rattle.std.specs.Prelude.{IfSome, IsSomeAnd, IsTrue, if◌then◌else◌, ma
 use Rattle.hm_types.specs.Elements.{FullElement}
 use Rattle.hm_disk.specs.Crash.{Told}
 use Rattle.hm_btree.specs.Tree.{HoldsTree, told_elements}
-use Rattle.hm_key.specs.Balance.{IsBalanced, content_of as lists_of}
+use Rattle.hm_key.specs.Balance.{IsBalanced, content_of}
 use Rattle.hm_cursor.specs.Told.{Lists, fulls}
 use Rattle.hm_model.specs.Volume.{Volume}
 use Rattle.hm_state.specs.Volume.{HoldsVolume}
 use Rattle.hm_stored.specs.Basis.{nodes}
 use Rattle.hm_stored.specs.Content.{DropsContent, HaveContent, KeepsContent, OpensContent, TellsContent}
-use Rattle.hm_stored.specs.Heap.{Heap, bytes_of, content_of, does_tell, extents_in, pages_of, places_in}
+use Rattle.hm_stored.specs.Heap.{Heap, bytes_of, begun_content, does_tell, extents_in, pages_of, places_in}
 use Rattle.hm_stored.specs.Known.{AreKnown, is_known}
 use Rattle.hm_stored.specs.Log.{filled}
 use Rattle.hm_stored.specs.Standing.{Holds, HoldsBy}
@@ -38,7 +38,7 @@ module _ (h : Heap) (root last : ℕ) (volume : Volume) (holds : HoldsVolume h r
     opened es there = opens es there (held_known es there)
 
     lists_told : (es : List FullElement) (t : Bool) → does_tell h' ≡ t → IsTrue t
-        → IfSome (lists_of (told_elements true (if t then Some (nodes h'.pages.current) else None) root)
+        → IfSome (content_of (told_elements true (if t then Some (nodes h'.pages.current) else None) root)
         (if t then Some (map (filled (bytes_of h'.disk)) (places_in h')) else None)) (λ l. HaveContent es l.0 l.1)
         → Tells (told_elements true (if t then Some (nodes h'.pages.current) else None) root)
         (if t then Some (map (filled (bytes_of h'.disk)) (places_in h')) else None) es
@@ -49,10 +49,10 @@ module _ (h : Heap) (root last : ℕ) (volume : Volume) (holds : HoldsVolume h r
     opened_tells es there = (let tells = opened es there in lists_told es (does_tell h') refl tells.tells tells.lists)
 
     -- it was dropped
-    pub dropped_holds : (old new : Heap) → content_of old ≡ content_of h' → old.roots.current ≡ root → DropsContent old new
+    pub dropped_holds : (old new : Heap) → begun_content old ≡ begun_content h' → old.roots.current ≡ root → DropsContent old new
         → HoldsSame h root new root
     dropped_holds old new same current drops es there =
-        let told : content_of old ≡ Some es = same ∙ (opened es there).content in
+        let told : begun_content old ≡ Some es = same ∙ (opened es there).content in
         subst (λ (n : ℕ). Holds new n es) current
         (subst (λ (o : Option (List FullElement)). IfSome o (λ l. Holds new old.roots.current l)) told drops)
 
@@ -66,7 +66,7 @@ module _ (h : Heap) (root last : ℕ) (volume : Volume) (holds : HoldsVolume h r
     store_tells es there = (store_opened es there).lists
 
     -- its call was dropped
-    pub store_dropped : (old new : Heap) (back : ℕ) → content_of old ≡ content_of h' → IfSome (content_of old) (Holds new back)
+    pub store_dropped : (old new : Heap) (back : ℕ) → begun_content old ≡ begun_content h' → IfSome (begun_content old) (Holds new back)
         → HoldsSame h root new back
     store_dropped old new back same held es there =
         subst (λ (o : Option (List FullElement)). IfSome o (Holds new back)) (same ∙ (store_opened es there).begun) held

@@ -46,7 +46,7 @@ pub boundary_listed : (command : Command) (boundary : Id) → IsSync command →
 boundary_listed command boundary (inl is) = subst (IsListed (Synced boundary)) (sym is) (0, omega arith, refl)
 boundary_listed command boundary (inr is) = subst (IsListed (Synced boundary)) (sym is) (0, omega arith, refl)
 
-fault_after : (first : ℕ) (fault : Fault) → Contains (first ∷ at_any_point) (number_of (reply_to fault))
+pub fault_after : (first : ℕ) (fault : Fault) → Contains (first ∷ at_any_point) (number_of (reply_to fault))
 fault_after first (device before after) = (1, omega arith, refl)
 fault_after first (damage at kind) = (2, omega arith, refl)
 fault_after first no_memory = (3, omega arith, refl)

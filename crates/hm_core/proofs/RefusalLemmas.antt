@@ -10,19 +10,23 @@ use Rattle.hm_flush.specs.Calls.{HasStageCause}
 use Rattle.hm_model.specs.declared.command.Command.{Command}
 use Rattle.hm_model.specs.declared.entry.Entry.{Entry}
 use Rattle.hm_model.specs.declared.reply.Reply.{Reply}
-use Rattle.hm_core.specs.Caused.{IsCausedFrom}
-use Rattle.hm_core.specs.Core.{Follows, GoesOnOverEach, IsCausedRun, IsSoundCore}
+use Rattle.hm_core.specs.Caused.{IsCausedWith}
+use Rattle.hm_core.specs.Core.{Follows, GoesOnOverEach, IsSoundCore}
 use Rattle.hm_core.specs.History.{IsLegalOver}
 use Rattle.hm_core.specs.Inside.{IsInOrder}
 use Rattle.hm_core.specs.Served.{IsServed}
 use Rattle.hm_core.specs.Staged.{FailsStage, Refuses}
-use Rattle.hm_core.specs.State.{CoreState, Mounted}
+use Rattle.hm_core.specs.State.{CoreState, Mounted, OpenPrune}
 use Rattle.hm_core.specs.Told.{reply_to}
-use Rattle.hm_core.proofs.CausedLemmas.{refused_goes_on as caused_refused}
+use Rattle.hm_core.proofs.CausedLemmas.{fault_closed, refused_goes_on as caused_refused}
 use Rattle.hm_core.proofs.CoreLemmas.{goes_on_further}
 use Rattle.hm_core.proofs.EnterLemmas.{entered_by}
 use Rattle.hm_core.proofs.RefusedLemmas.{refused_call}
 use Rattle.hm_core.proofs.StepLemmas.{IsStageFault, boundary_drawn, entry_of, fault_untold, greatest_drawn, ordered_refused, stage_failure, target_drawn, untold_since}
+
+-- each reply of a core has its cause, and what is open is known to be
+abbrev pub IsCausedOpen : CoreState → Type 0
+IsCausedOpen core = ∥ IsCausedWith core.mounted.first core.mounted.counts core.counts core.last core.running core.history ∥₁
 
 -- A stage made of the one core the other, and failed, and the call is entered with its fault.
 module _ (past since : LeftSince) (old mid : CoreState) (fails : FailsStage old mid) (follows : Follows past since old mid) (fault : Fault)
@@ -55,13 +59,12 @@ module _ (past since : LeftSince) (old mid : CoreState) (fails : FailsStage old 
     abbrev pub new : CoreState
     new = record mid { history = history; spare = spare; last = mid.last + 1 }
 
-    pub refused_caused : IsCausedRun old → IsCausedRun new
+    pub refused_caused : IsCausedOpen old → IsCausedOpen new
     refused_caused run = ∥∥₁_map run (λ from.
-        subst (λ (m : Mounted). IsCausedFrom m.first m.counts mid.counts new.last history) (sym follows.mounted)
-        (subst (λ (n : ℕ). IsCausedFrom old.mounted.first old.mounted.counts mid.counts n history) (sym last_is)
-        (subst (λ (l : List Entry). IsCausedFrom old.mounted.first old.mounted.counts mid.counts (old.last + 1) l) (sym history_is)
-        (caused_refused old.mounted.first old.mounted.counts old.counts mid.counts old.last old.history from follows.never_falls entry
-        (subst (λ (n : ℕ). n < GREATEST_ID) fails.waits.last left) last_is served fault told failure.caused))))
+        subst (λ (x : Mounted × ℕ × List OpenPrune × List Entry). IsCausedWith x.0.first x.0.counts mid.counts x.1 x.2 x.3)
+        (λ i. (sym follows.mounted i, sym last_is i, sym fails.waits.running i, sym history_is i))
+        (caused_refused old.mounted.first old.mounted.counts old.counts mid.counts old.last old.running old.history from follows.never_falls entry
+        (subst (λ (n : ℕ). n < GREATEST_ID) fails.waits.last left) last_is served fault told failure.caused))
 
     module _ (is : mid.boundary ≡ mid.flush.header.last.0) where
       later : mid.flush.header.last.0 ≤ mid.last
@@ -70,17 +73,20 @@ module _ (past since : LeftSince) (old mid : CoreState) (fails : FailsStage old 
       pub refuses : old.spare ≤ spare + 1 → Refuses old new lane line command
       refuses room = record {
         failed = fails.failed;
-        enters = record {
-          left = subst (λ (n : ℕ). n < GREATEST_ID) fails.waits.last left;
-          entry = entry;
-          history = history_is;
-          of_line = (refl, refl, refl);
-          told = untold_since old.last mid.boundary fault reply told;
-          id = (last_is, last_is);
-          before = omega (arith, is, later);
-          spare = (let same = ap length fails.waits.running in omega (arith, room, same));
+        ends = record {
+          enters = record {
+            left = subst (λ (n : ℕ). n < GREATEST_ID) fails.waits.last left;
+            entry = entry;
+            history = history_is;
+            of_line = (refl, refl, refl);
+            told = untold_since old.last mid.boundary fault reply told;
+            id = (last_is, last_is);
+            before = omega (arith, is, later);
+            spare = (let same = ap length fails.waits.running in omega (arith, room, same));
+          };
+          closed = fault_closed entry fault told;
+          running = fails.waits.running;
         };
-        running = fails.waits.running;
         cause = failure.told;
       }
 

@@ -11,10 +11,11 @@ use Rattle.hm_core.specs.Calls.{Fails}
 use Rattle.hm_core.specs.Counts.{AreLater}
 use Rattle.hm_core.specs.History.{IsLegalBeyond, IsLegalOver}
 use Rattle.hm_core.specs.Served.{IsServed}
+use Rattle.hm_core.specs.State.{OpenPrune}
 use Rattle.hm_core.proofs.CallLemmas.{failed_call}
 use Rattle.hm_core.proofs.SpaceLemmas.{pathless_refused}
 
-module _ (free : ℕ) (start faults faults' : Counts) (history : List Entry) (h : Heap) (root last : ℕ) (running : List ℕ) (opening : Volume)
+module _ (free : ℕ) (start faults faults' : Counts) (history : List Entry) (h : Heap) (root last : ℕ) (running : List OpenPrune) (opening : Volume)
     (foreigners : Foreigners) (events : List Event) (so_far : IsLegalOver free start faults history h root last running opening foreigners events)
     (counted : AreLater faults faults') (left : last < GREATEST_ID) where
   pub refused_call : (entry : Entry) → IsServed entry.call → entry.id.0 ≡ last + 1 → (h' : Heap) (root' : ℕ)

@@ -1,7 +1,8 @@
 -- What a reply tells of the space over which it was answered, and of a device that failed, exactly.
 use Rattle.std.proofs.Common.{◌≡◌, inl, inr, ℕ, ◌+◌, ◌^◌, ◌++◌, ◌∷◌, [], Bool, List, Option, None, Some, refl, sym, ap, subst, ◌∙◌, cond}
 use Rattle.std.proofs.Common.{get_or, length, slice_get}
-use Rattle.std.specs.Prelude.{◌⊎◌, IfSome, IsSomeAnd, if◌then◌else◌}
+use Rattle.std.specs.Prelude.{◌⊎◌, IfSome, IsSomeAnd, IsTrue, if◌then◌else◌}
+use Rattle.std.proofs.lemmas.Bool.{false≢true}
 use Rattle.std.proofs.lemmas.Option.{get_or_from_slice_get}
 use Rattle.hm_types.specs.Elements.{FullElement}
 use Rattle.hm_types.specs.Faults.{IsCaused}
@@ -10,7 +11,7 @@ use Rattle.hm_types.specs.declared.fault.Fault.{Fault}
 use Rattle.hm_types.specs.declared.fault.Fault.TheVariants.{Damaged as damage, Media as device, NoMemory as no_memory}
 use Rattle.hm_types.specs.declared.limits.TheConstants.{BIGBLOCK_BYTES}
 use Rattle.hm_fields.specs.Pages.{PageMap}
-use Rattle.hm_key.specs.Balance.{IsBalanced, content_of as lists_of}
+use Rattle.hm_key.specs.Balance.{IsBalanced, content_of}
 use Rattle.hm_key.specs.Extents.{Extent}
 use Rattle.hm_key.specs.declared.element.Element.{Element}
 use Rattle.hm_cursor.specs.Told.{Lists, OnBalanced, fulls}
@@ -33,21 +34,23 @@ use Rattle.hm_model.specs.declared.reply.Reply.TheVariants.{CrossPfs, IntoItself
 use Rattle.hm_model.specs.declared.reply.Reply.TheVariants.{IdsSpent, NoSpace, Media, Damaged, NoMemory, SharedDiffers, BeginDiffers, StreamBad, StreamShort}
 use Rattle.hm_model.specs.declared.reply.Reply.TheVariants.{StreamFault, EndPruned, Busy, NotLink, NotFile}
 use Rattle.hm_calls.specs.Call.{IsCall, OnCalls}
-use Rattle.hm_calls.specs.Commands.{IsOnTrees}
+use Rattle.hm_calls.specs.Answered.{AsksBeside, IsAnswerable, is_prune}
 use Rattle.hm_calls.specs.Due.{due_over}
 use Rattle.hm_calls.specs.Possible.{IsOwn}
-use Rattle.hm_calls.specs.Replies.{Asks}
 use Rattle.hm_stored.specs.Basis.{states_of}
 use Rattle.hm_stored.specs.Heap.{Heap, free_of, maps_of, room_of}
 use Rattle.hm_stored.specs.Standing.{Holds, basis_now}
 use Rattle.hm_stored.specs.Turn.{IsClosed}
+use Rattle.hm_step.specs.Next.{UsedBelow}
 use Rattle.hm_step.specs.Seen.{AreGiven}
+use Rattle.hm_step.proofs.NextCallLemmas.{numbers_so}
 use Rattle.hm_step.proofs.SeenLemmas.{shows_as}
 use Rattle.hm_state.proofs.SameLemmas.{held_firm}
 use Rattle.hm_core.specs.History.{IsLegalOver, setting_of}
 use Rattle.hm_core.specs.Replied.{IsReplied, TellsMedia, free_now}
 use Rattle.hm_core.specs.Served.{IsSync}
-use Rattle.hm_core.specs.Told.{Tells, TellsFailure, TellsHeld, reply_to}
+use Rattle.hm_core.specs.State.{OpenPrune}
+use Rattle.hm_core.specs.Told.{Tells, TellsFailure, TellsHeld, reply_to, told_beside}
 
 -- as many big-blocks are free by the freemap of a space as its trees leave, where it holds elements
 pub free_counted : (h : Heap) (root : ℕ) (es : List FullElement) → IsClosed h → Holds h root es → free_of h ≡ free_now h root
@@ -65,20 +68,20 @@ room_is a b = by b.whole b.append b.pages.current where
 -- a fact of what a store tells is one of the elements that a space held
 told_held : (es : Option (List Element)) (xs : Option (List Extent)) (held : List FullElement) (P : List FullElement → Type 0)
     → Tells es xs held → OnBalanced es xs (λ was. P (fulls was)) → P held
-told_held es xs held P tells all = by (lists_of es xs) tells all where
+told_held es xs held P tells all = by (content_of es xs) tells all where
   by : (o : Option Lists) → IsSomeAnd o (λ was. IsBalanced was.0 was.1 × (fulls was ≡ held))
       → IfSome o (λ was. IsBalanced was.0 was.1 → P (fulls was)) → P held
   by None tells all = absurd tells
   by (Some was) tells all = subst P tells.1 (all tells.0)
 
 -- The reply that a call is due over a store is the one that it is due over the space that the store was opened over.
-module _ (last : ℕ) (command : Command) (reply : Reply) where
+module _ (last : ℕ) (command : Command) (reply : Reply) (numbers : ℕ) where
   abbrev pub IsDueFor : (ℕ → ℕ) → ℕ → List FullElement → Type 0
-  IsDueFor room free es = (call : Call) → IsCall name_hash (last + 1) es call → Asks command None call → reply ≡ due_over call room free
+  IsDueFor room free es = (call : Call) → IsCall name_hash (last + 1) es call → AsksBeside command (told_beside numbers) es call → reply ≡ due_over call room free
 
   pub due_held : (es : Option (List Element)) (xs : Option (List Extent)) (room : ℕ → ℕ) (free : ℕ) (h : Heap) (root : ℕ) (held : List FullElement)
       → room ≡ room_of h → free ≡ free_of h → IsClosed h → Holds h root held → TellsHeld es xs h root
-      → OnCalls name_hash (last + 1) es xs (λ _ call. Asks command None call → reply ≡ due_over call room free)
+      → OnCalls name_hash (last + 1) es xs (λ list call. AsksBeside command (told_beside numbers) list call → reply ≡ due_over call room free)
       → IsDueFor (room_of h) (free_now h root) held
   due_held es xs room free h root held same_room same_free closed holds tells due =
       subst (λ (n : ℕ). IsDueFor (room_of h) n held) (same_free ∙ free_counted h root held closed holds)
@@ -138,9 +141,13 @@ fault_media old new (damage at kind) caused = tt
 fault_media old new no_memory caused = tt
 
 -- a sync is no other call
-pub sync_alone : (command : Command) → IsSync command → IsOnTrees command → ⊥
-sync_alone command (inl is) of_trees = subst IsOnTrees is of_trees
-sync_alone command (inr is) of_trees = subst IsOnTrees is of_trees
+pub sync_alone : (command : Command) → IsSync command → IsAnswerable command → ⊥
+sync_alone command (inl is) answers = subst IsAnswerable is answers
+sync_alone command (inr is) answers = subst IsAnswerable is answers
+
+pub sync_no_prune : (command : Command) → IsSync command → IsTrue (is_prune command) → ⊥
+sync_no_prune command (inl is) prunes = false≢true (sym (ap is_prune is) ∙ prunes)
+sync_no_prune command (inr is) prunes = false≢true (sym (ap is_prune is) ∙ prunes)
 
 pub sync_no_space : (command : Command) → IsSync command → command ≡ Df → ⊥
 sync_no_space command (inl is) df = let same : Df ≡ Sync = sym df ∙ is in cc
@@ -159,23 +166,32 @@ entry_there history entry found place there is =
     ∙ last_entry history entry entry
 
 -- The call that comes next in a legal history is one that the elements of the space show, so its reply is due over it.
-module _ (free : ℕ) (start counts : Counts) (history : List Entry) (h : Heap) (root last : ℕ) (running : List ℕ) (opening : Volume) (foreigners : Foreigners)
-    (events : List Event) (event : Event) (faults faults' : ℕ) where
+module _ (free : ℕ) (start counts : Counts) (history : List Entry) (h : Heap) (root last : ℕ) (running : List OpenPrune) (opening : Volume) (foreigners : Foreigners)
+    (events : List Event) (event : Event) (numbers faults faults' : ℕ) where
   abbrev run : Setting
   run = setting_of free start counts opening foreigners
 
-  pub due_next : IsLegalOver free start counts history h root last running opening foreigners events → IsOnTrees event.entry.call
+  pub due_next : IsLegalOver free start counts history h root last running opening foreigners events → IsAnswerable event.entry.call
       → ((es : List FullElement) → Holds h root es → AreGiven es (state_after run events).volume event.substitutes)
-      → ReadsPaths (call_after run events event) → IsReplied faults faults' last event.entry.call h root event.entry.reply
+      → UsedBelow numbers (state_after run events).volume → ReadsPaths (call_after run events event) → IsReplied numbers faults faults' last event.entry.call h root event.entry.reply
       → (event.entry.reply ≡ due_over (call_after run events event) (room_of h) (free_now h root)) ⊎ TellsFailure faults faults' event.entry.reply
-  due_next so_far of_trees given reads replied =
+  due_next so_far answers given used reads replied =
       let volume = (state_after run events).volume in
       let held = so_far.held.holds in
       let es = held.elements.0 in
-      replied.due of_trees volume held (call_after run events event) (record {
+      let stand = held.elements.2 in
+      replied.due answers volume held (call_after run events event) (record {
         own = ap (λ (n : ℕ). n + 1) (sym held.last_is);
         hash_is = refl;
         shows = shows_as es volume event.substitutes held.elements.2 (given es held.elements.1);
         keys = held.elements.2.names;
         words = reads;
-      }) (record { command_is = refl; busy_is = so_far.held.opened.idle })
+      }) (record {
+        asks = record { command_is = refl; busy_is = so_far.held.opened.idle };
+        numbers = numbers_so event.entry.call numbers es volume (record {
+          used = used;
+          apart = stand.numbers.apart;
+          few = stand.numbers.few;
+          of_systems = stand.of_systems;
+        });
+      })

@@ -29,6 +29,7 @@ use Rattle.hm_core.specs.Counts.{AreLater}
 use Rattle.hm_core.specs.History.{IsLegalBeyond, IsLegalOver, setting_of}
 use Rattle.hm_core.specs.Inside.{AreUpTo}
 use Rattle.hm_core.specs.Served.{IsSync}
+use Rattle.hm_core.specs.State.{OpenPrune}
 use Rattle.hm_core.specs.Told.{HoldsSame, TellsFailure, TellsSpace}
 use Rattle.hm_core.proofs.BoundaryLemmas.{boundary_known}
 use Rattle.hm_core.proofs.CallLemmas.{drawn_next, floor_next, goes_on, left_next}
@@ -36,9 +37,9 @@ use Rattle.hm_core.proofs.CountLemmas.{NumbersOf}
 use Rattle.hm_core.proofs.PathlessLemmas.{NamesNoPath, boundary_listed, event_of, fault_listed, space_listed}
 use Rattle.hm_core.proofs.PathlessLemmas.{pathless_accepted, pathless_after, pathless_allowed, pathless_cause, pathless_feeds, pathless_lands}
 use Rattle.hm_core.proofs.ReplyLemmas.{tells_no_pass}
-use Rattle.hm_core.proofs.StateLemmas.{holds_after}
+use Rattle.hm_core.proofs.StateLemmas.{holds_drawn}
 
-module _ (free : ℕ) (start faults faults' : Counts) (history : List Entry) (h : Heap) (root last : ℕ) (running : List ℕ) (opening : Volume)
+module _ (free : ℕ) (start faults faults' : Counts) (history : List Entry) (h : Heap) (root last : ℕ) (running : List OpenPrune) (opening : Volume)
     (foreigners : Foreigners) (events : List Event) (so_far : IsLegalOver free start faults history h root last running opening foreigners events)
     (counted : AreLater faults faults') (left : last < GREATEST_ID) where
   -- the run with the count of now, and what it has come to
@@ -106,9 +107,9 @@ module _ (free : ℕ) (start faults faults' : Counts) (history : List Entry) (h 
           let stands : StandFor elements.0 (state_after run (events ++ event ∷ [])).volume =
           subst (λ (s : State). StandFor elements.0 s.volume) (sym after_is) (stand_next elements.0 state.volume elements.2 low) in (
             event ∷ [],
-            goes_on free start faults faults' history h root last running opening foreigners events so_far counted event h' root' follows
-                (holds_after h h' root root' last running state (state_after run (events ++ event ∷ [])) false call elements.0
-                so_far.held refl after_is size (same elements.0 elements.1) stands),
+            goes_on free start faults faults' history h root last running opening foreigners events so_far counted event h' root' running follows
+                (holds_drawn h h' root root' last running state (state_after run (events ++ event ∷ [])) call elements.0 so_far.held refl after_is size
+                (same elements.0 elements.1) stands),
           )
 
       told_here : IsLegalBeyond free start faults' (history ++ entry ∷ []) h root (last + 1) running opening foreigners events

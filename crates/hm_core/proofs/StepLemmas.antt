@@ -30,15 +30,17 @@ use Rattle.hm_model.specs.declared.entry.Entry.{Entry}
 use Rattle.hm_model.specs.declared.reply.Reply.{Reply}
 use Rattle.hm_stored.specs.Heap.{Heap, free_of, room_of}
 use Rattle.hm_stored.specs.Turn.{IsClosed}
+use Rattle.hm_calls.specs.Answered.{reply_in}
+use Rattle.hm_calls.specs.declared.answered.Answered.{Answered}
 use Rattle.hm_core.specs.Answer.{AnswersOver, IsEntryOf}
 use Rattle.hm_core.specs.Core.{TellsBoundary}
 use Rattle.hm_core.specs.Inside.{AreDrawnBy, AreUpTo, IsInOrder}
 use Rattle.hm_core.specs.Ledger.{IsPaid}
 use Rattle.hm_core.specs.Served.{IsSync}
 use Rattle.hm_core.specs.Told.{TellsFailure, reply_to}
-use Rattle.hm_core.proofs.AnswerLemmas.{paid_later}
 use Rattle.hm_core.proofs.FloorLemmas.{floor_paid}
 use Rattle.hm_core.proofs.PropLemmas.{flushed_prop}
+use Rattle.hm_core.proofs.TurnLemmas.{paid_later}
 
 -- the entry of a call with these
 abbrev pub entry_of : ℕ → ℕ → ℕ → Command → Reply → Entry
@@ -76,7 +78,7 @@ module _ (history : List Entry) (entry : Entry) where
   ]
 
 -- a flush is one over the pages of a space whose committed and frozen pages are the same
-group_same : (f : Flush) (s s' : Store) → IsSameFlush s s' → IsGroupOf f s → IsGroupOf f s'
+pub group_same : (f : Flush) (s s' : Store) → IsSameFlush s s' → IsGroupOf f s → IsGroupOf f s'
 group_same f s s' same group =
     by s'.committed s'.frozen s'.frozen_group s'.boundary same.committed same.frozen same.frozen_group same.boundary where
       by : (c z : PageMap) (l : List ℕ) (b : Option Id) → c ≡ s.committed → z ≡ s.frozen → l ≡ s.frozen_group → b ≡ s.boundary
@@ -150,11 +152,12 @@ module _ (f : Flush) (last free : ℕ) (h : Heap) (history : List Entry) where
   }
 
   -- so it is after a call that a store answered
-  pub ordered_next : (h' : Heap) (root root' faults faults' : ℕ) (command : Command) (reply : Reply) (entry : Entry) → last < GREATEST_ID → IsEntryOf last command reply entry
-      → AnswersOver f.header.last.0 faults faults' last command h h' root root' reply → IsInOrder f last free h history
+  pub ordered_next : (h' : Heap) (root root' numbers faults faults' : ℕ) (command : Command) (answered : Answered) (entry : Entry) → last < GREATEST_ID
+      → IsEntryOf last command (reply_in answered) entry
+      → AnswersOver numbers f.header.last.0 faults faults' last command h h' root root' answered → IsInOrder f last free h history
       → IsInOrder f (last + 1) free h' (history ++ entry ∷ [])
-  ordered_next h' root root' faults faults' command reply entry left is answers o =
-      ordered_more h' entry left is.own (subst (λ (r : Reply). boundary_in r ≤ f.header.last.0) (sym is.reply_is) (told_in f.header.last.0 command reply answers.told)) (record {
+  ordered_next h' root root' numbers faults faults' command answered entry left is answers o =
+      ordered_more h' entry left is.own (subst (λ (r : Reply). boundary_in r ≤ f.header.last.0) (sym is.reply_is) (told_in f.header.last.0 command (reply_in answered) answers.told)) (record {
         closed = answers.closed;
         bigblocks = o.ready.bigblocks ∙ sym answers.flush.bigblocks;
         group = group_same f h.pages h'.pages answers.flush.pages o.ready.group;

@@ -1,5 +1,6 @@
 -- A call that tells the space is the next one of each history.
 use Rattle.std.proofs.Common.{◌≡◌, inl, inr, ℕ, ◌+◌, ◌-◌, ◌^◌, ◌≤◌, ◌<◌, Bool, List, [], ◌∷◌, ◌++◌, refl, sym, ap, subst, ◌∙◌, cond, length, arith}
+use Rattle.std.proofs.lemmas.Bool.{false≢true}
 use Rattle.std.proofs.lemmas.List.FromFn.{length-range_with_len}
 use Rattle.std.proofs.lemmas.List.Sums.{count_by-le-length}
 use Rattle.hm_types.specs.Faults.{IsCaused}
@@ -18,6 +19,7 @@ use Rattle.hm_model.specs.Volume.{Volume}
 use Rattle.hm_model.specs.declared.command.Command.TheVariants.{Df}
 use Rattle.hm_model.specs.declared.entry.Entry.{Entry}
 use Rattle.hm_model.specs.declared.reply.Reply.TheVariants.{NoMemory, Space}
+use Rattle.hm_calls.specs.declared.answered.Answered.TheVariants.{Replied}
 use Rattle.hm_stored.specs.Basis.{IsFirm, states_of}
 use Rattle.hm_stored.specs.Heap.{Heap, free_of, maps_of, room_of}
 use Rattle.hm_stored.specs.Standing.{basis_now}
@@ -30,6 +32,7 @@ use Rattle.hm_core.specs.Counts.{AreLater, with_disk}
 use Rattle.hm_core.specs.History.{IsLegalBeyond, IsLegalOver}
 use Rattle.hm_core.specs.Ledger.{IsPaid}
 use Rattle.hm_core.specs.Live.{KeepsLiveOver}
+use Rattle.hm_core.specs.State.{OpenPrune}
 use Rattle.hm_core.specs.Told.{reply_to}
 use Rattle.hm_core.proofs.AnswerLemmas.{fault_silent, none_told}
 use Rattle.hm_core.proofs.CausedLemmas.{space_fault_goes_on, space_goes_on}
@@ -96,7 +99,7 @@ module _ (old new : Heap) (root root' faults faults' : ℕ) (closed : IsClosed o
 
   module _ (last : ℕ) (left : last < GREATEST_ID) where
     -- what was legal before the look is so after it
-    there : (first : ℕ) (start counts : Counts) (history : List Entry) (running : List ℕ) (opening : Volume) (foreigners : Foreigners) (events : List Event)
+    there : (first : ℕ) (start counts : Counts) (history : List Entry) (running : List OpenPrune) (opening : Volume) (foreigners : Foreigners) (events : List Event)
         → IsLegalBeyond first start counts history old root (last + 1) running opening foreigners events
         → IsLegalBeyond first start counts history new root' (last + 1) running opening foreigners events
     there first start counts history running opening foreigners events (more, legal) = (
@@ -105,49 +108,51 @@ module _ (old new : Heap) (root root' faults faults' : ℕ) (closed : IsClosed o
           (looked_legal old new looks first start counts history root (last + 1) running opening foreigners (events ++ more) legal),
     )
 
-    pub told_answers : (boundary space free : ℕ) → space ≡ old.bigblocks - first_pool old.bigblocks → free ≡ free_of old
-        → AnswersOver boundary faults faults' last Df old new root root' (Space space free)
-    told_answers boundary space free pool_is is_free = record {
+    pub told_answers : (numbers boundary space free : ℕ) → space ≡ old.bigblocks - first_pool old.bigblocks → free ≡ free_of old
+        → AnswersOver numbers boundary faults faults' last Df old new root root' (Replied (Space space free))
+    told_answers numbers boundary space free pool_is is_free = record {
+      form = λ prunes. absurd (false≢true prunes);
       closed = looked_closed old new looks closed;
       counted = counted;
       told = tt;
       replied = record {
         media = tt;
-        due = λ of_trees. absurd of_trees;
+        due = λ answers. absurd answers;
         space = λ is volume held.
             inl (ap (λ (n : ℕ). Space n free) pool_is
             ∙ ap (Space (old.bigblocks - first_pool old.bigblocks)) (is_free ∙ free_counted old root held.elements.0 closed held.elements.1));
       };
-      caused = λ first start counts history entry of told before so_far.
-          space_goes_on first start (with_disk counts faults) (with_disk counts faults') last history so_far (later counts) entry left of.own of.call_is space free of.reply_is;
+      caused = λ first start counts history running entry of told before so_far.
+          space_goes_on first start (with_disk counts faults) (with_disk counts faults') last running history so_far (later counts) entry left of.own of.call_is space free of.reply_is;
       flush = kept;
       live = live_looked last;
       paid = paid_same;
-      legal = λ first start counts history running opening foreigners events entry enough of told before so_far.
+      legal = λ first start counts history running opening foreigners events entry enough of told before used so_far.
           there first start (with_disk counts faults') (history ++ entry ∷ []) running opening foreigners events
           (space_told first start (with_disk counts faults) (with_disk counts faults') history old root last running opening foreigners events so_far
           (later counts) left entry of.call_is of.own
           (space, free, of.reply_is, pool_is, omega (arith, is_free, enough), omega (arith, is_free, pool_is, free_most)));
     }
 
-    pub failed_answers : (boundary : ℕ) (fault : Fault) → IsFreemapDamage old.bigblocks old.append (IsPool old.bigblocks) (maps_of old) fault → IsCaused 0 0 fault
-        → AnswersOver boundary faults faults' last Df old new root root' (reply_to fault)
-    failed_answers boundary fault bad caused = record {
+    pub failed_answers : (numbers boundary : ℕ) (fault : Fault) → IsFreemapDamage old.bigblocks old.append (IsPool old.bigblocks) (maps_of old) fault → IsCaused 0 0 fault
+        → AnswersOver numbers boundary faults faults' last Df old new root root' (Replied (reply_to fault))
+    failed_answers numbers boundary fault bad caused = record {
+      form = λ prunes. absurd (false≢true prunes);
       closed = looked_closed old new looks closed;
       counted = counted;
       told = none_told boundary Df (reply_to fault) (fault_silent fault);
       replied = record {
         media = fault_media faults faults' fault (no_device fault caused);
-        due = λ of_trees. absurd of_trees;
+        due = λ answers. absurd answers;
         space = λ is volume held. inr (inr (memory_alone fault bad caused (held_firm old root held.elements.0 held.elements.1)));
       };
-      caused = λ first start counts history entry of told before so_far.
-          space_fault_goes_on first start (with_disk counts faults) (with_disk counts faults') last history so_far (later counts) entry left of.own of.call_is fault of.reply_is
+      caused = λ first start counts history running entry of told before so_far.
+          space_fault_goes_on first start (with_disk counts faults) (with_disk counts faults') last running history so_far (later counts) entry left of.own of.call_is fault of.reply_is
           (no_device fault caused);
       flush = kept;
       live = live_looked last;
       paid = paid_same;
-      legal = λ first start counts history running opening foreigners events entry enough of told before so_far.
+      legal = λ first start counts history running opening foreigners events entry enough of told before used so_far.
           let firm = held_firm old root so_far.held.holds.elements.0 so_far.held.holds.elements.1 in
           there first start (with_disk counts faults') (history ++ entry ∷ []) running opening foreigners events
           (space_refused first start (with_disk counts faults) (with_disk counts faults') history old root last running opening foreigners events so_far

@@ -1,11 +1,12 @@
 -- What the calls of a core do.
-use Rattle.std.specs.Prelude.{◌≡◌, ◌⊎◌, ℕ, ◌+◌, ◌<◌, ◌≤◌, List, [], ◌∷◌, ◌++◌, IfSome, length}
+use Rattle.std.specs.Prelude.{◌≡◌, ◌⊎◌, ℕ, ◌+◌, ◌<◌, ◌≤◌, List, [], ◌∷◌, ◌++◌, Some, IfSome, false, true, length}
 use Rattle.hm_types.specs.declared.limits.TheConstants.{FULL_GROUP_PAGES, GREATEST_ID}
 use Rattle.hm_disk.specs.Crash.{MayLeave, Told}
 use Rattle.hm_disk.specs.Moments.{Each, LeftSince}
 use Rattle.hm_flush.specs.Ends.{as_read}
 use Rattle.hm_flush.specs.Flush.{tried}
 use Rattle.hm_model.specs.After.{Event}
+use Rattle.hm_model.specs.Caused.{opens}
 use Rattle.hm_model.specs.Foreign.{Foreigners}
 use Rattle.hm_model.specs.Reply.{told_boundary}
 use Rattle.hm_model.specs.Volume.{Volume}
@@ -20,9 +21,9 @@ use Rattle.hm_core.specs.Counts.{AreLater}
 use Rattle.hm_core.specs.Crash.{HasHeaderOf, IsBetween, IsLeftBoundary, LeavesPrefixes, RecoversToPrefix}
 use Rattle.hm_core.specs.Inside.{AreUpTo}
 use Rattle.hm_core.specs.Served.{IsSync}
-use Rattle.hm_core.specs.State.{CoreDevices, CoreState}
+use Rattle.hm_core.specs.State.{CoreDevices, CoreState, OpenPrune, prune_with}
 use Rattle.hm_core.specs.declared.step.Step.{Step}
-use Rattle.hm_core.specs.declared.step.Step.TheVariants.{Answered, MustFlush, Spent}
+use Rattle.hm_core.specs.declared.step.Step.TheVariants.{Answered, MustFlush, Opened, Spent}
 
 -- What a flush holds of the volume on which a run began, on a disk that tells this: the committed volume is the one after the
 -- events up to the boundary, and while a flush is in flight the frozen one that after those up to its target.
@@ -127,11 +128,30 @@ pub record Waits (old new : CoreState) : Type 0 where
 abbrev pub NeedsFlush : CoreState → ℕ → Command → Type 0
 NeedsFlush core since command = (FULL_GROUP_PAGES ≤ core.heap.pages.group.pages) ⊎ (IsSync command × (core.boundary < since))
 
--- A call was answered and entered, and the flush and the calls that are open are as before; or it waits for a flush, and is handed back; or no id was left.
--- In both of these all is as before.
+-- A call was answered and entered, and is at its end: it opened nothing, and the calls that are open are as before.
+pub record EndsAtOnce (old new : CoreState) (lane line since : ℕ) (command : Command) : Type 0 where
+  pub enters : Enters old new lane line since command
+  pub closed : opens enters.entry ≡ false
+  pub running : new.running ≡ old.running
+
+-- The opening of a prune was accepted and entered, with this id, and the prune is open beside the others, with the lane and the line of its
+-- opening.
+pub record OpensJob (old new : CoreState) (lane line since : ℕ) (command : Command) (opening : ℕ) : Type 0 where
+  pub enters : Enters old new lane line since command
+  pub accepted : opens enters.entry ≡ true
+  pub prune : OpenPrune
+  pub own : (prune.opening ≡ opening) × (prune.lane ≡ lane) × (prune.line ≡ line)
+  pub named : enters.entry.id.0 ≡ opening
+  pub running : new.running ≡ old.running ++ prune ∷ []
+  pub found : prune_with opening new.running ≡ Some prune
+
+-- A call was answered and entered, or the opening of a prune was, and the flush is as before; or it waits for a flush, and is handed back;
+-- or no id was left. In both of these all is as before.
 abbrev pub Steps : CoreState → CoreState → ℕ → ℕ → ℕ → Command → Step → Type 0
 Steps old new lane line since command (Answered place) =
-    (place ≡ length old.history) × Enters old new lane line since command × (new.flush ≡ old.flush) × (new.running ≡ old.running)
+    (place ≡ length old.history) × EndsAtOnce old new lane line since command × (new.flush ≡ old.flush) × ¬ NeedsFlush old since command
+Steps old new lane line since command (Opened place ticket) =
+    (place ≡ length old.history) × OpensJob old new lane line since command ticket.opening.0 × (new.flush ≡ old.flush)
     × ¬ NeedsFlush old since command
 Steps old new lane line since command (MustFlush back) =
     (back ≡ command) × (new ≡ old) × (old.last < GREATEST_ID) × NeedsFlush old since command
@@ -146,5 +166,6 @@ module _ {D I O : Type 0} where
   -- a step leaves the streams of a core, and where nothing was answered the disk too
   abbrev pub LeavesDevices : CoreDevices D I O → CoreDevices D I O → Step → Type 0
   LeavesDevices old new (Answered place) = KeepsStreams old new
+  LeavesDevices old new (Opened place ticket) = KeepsStreams old new
   LeavesDevices old new (MustFlush back) = new ≡ old
   LeavesDevices old new Spent = new ≡ old

@@ -1,6 +1,6 @@
 -- A history over the volume on which it began, and the space that has come of it.
-use Rattle.std.specs.Prelude.{◌≡◌, ℕ, List, [], ◌∷◌, ◌++◌, None, map, nat_le, if◌then◌else◌}
-use Rattle.hm_model.specs.After.{Event, OpenCall, State, after, busy_in}
+use Rattle.std.specs.Prelude.{◌≡◌, ℕ, List, [], ◌∷◌, ◌++◌, nat_le, if◌then◌else◌}
+use Rattle.hm_model.specs.After.{Event, State, after}
 use Rattle.hm_model.specs.Caused.{Counts, known_after, known_at}
 use Rattle.hm_model.specs.Foreign.{Foreigners}
 use Rattle.hm_model.specs.Legal.{IsLegal, Setting, entries_of, state_after}
@@ -9,6 +9,8 @@ use Rattle.hm_model.specs.declared.entry.Entry.{Entry}
 use Rattle.hm_stored.specs.Heap.{Heap}
 use Rattle.hm_state.specs.Volume.{HoldsVolume}
 use Rattle.hm_core.specs.Counts.{AreLater}
+use Rattle.hm_core.specs.Open.{AreOpen}
+use Rattle.hm_core.specs.State.{OpenPrune}
 
 -- What a run of a core began with, over an opening volume: so many free big-blocks, and so many faults of its devices; and
 -- how many these are now.
@@ -21,15 +23,10 @@ setting_of free start now opening foreigners = record {
   now = now;
 }
 
--- The housekeeping calls that are open have these opening ids, the latest first, and none of them is a mirror or upgrade call.
-pub record AreOpen (running : List ℕ) (opened : List OpenCall) : Type 0 where
-  pub ids : map (λ (o : OpenCall). o.opening) opened ≡ running
-  pub idle : busy_in opened ≡ None
-
--- a space holds the volume of a state, in which the calls with these opening ids are open
-pub record HoldsState (h : Heap) (root last : ℕ) (running : List ℕ) (state : State) : Type 0 where
+-- a space holds the volume of a state, in which these prunes are open
+pub record HoldsState (h : Heap) (root last : ℕ) (running : List OpenPrune) (state : State) : Type 0 where
   pub holds : HoldsVolume h root last state.volume
-  pub opened : AreOpen running state.opened
+  pub opened : AreOpen running state
 
 -- the volume that an opening one has become by these events
 abbrev pub volume_of : Volume → Foreigners → List Event → Volume
@@ -41,9 +38,9 @@ up_to id [] = []
 up_to id (event ∷ events) = if nat_le event.entry.id.0 id then event ∷ up_to id events else []
 
 -- The entries of a history are those of these events, which are legal over an opening volume, with no more faults told than
--- were counted, and a space holds the state after them, in which the calls with these opening ids are open. The events say which
+-- were counted, and a space holds the state after them, in which these prunes are open. The events say which
 -- trees each entry saw of a pseudo file system whose trees are not certain.
-pub record IsLegalOver (free : ℕ) (start now : Counts) (history : List Entry) (h : Heap) (root last : ℕ) (running : List ℕ)
+pub record IsLegalOver (free : ℕ) (start now : Counts) (history : List Entry) (h : Heap) (root last : ℕ) (running : List OpenPrune)
     (opening : Volume) (foreigners : Foreigners) (events : List Event) : Type 0 where
   pub entries : entries_of events ≡ history
   pub legal : IsLegal (setting_of free start now opening foreigners) events
@@ -51,6 +48,6 @@ pub record IsLegalOver (free : ℕ) (start now : Counts) (history : List Entry) 
   pub held : HoldsState h root last running (state_after (setting_of free start now opening foreigners) events)
 
 -- the same over these events and more: what each entry before them saw stays
-abbrev pub IsLegalBeyond : ℕ → Counts → Counts → List Entry → Heap → ℕ → ℕ → List ℕ → Volume → Foreigners → List Event → Type 0
+abbrev pub IsLegalBeyond : ℕ → Counts → Counts → List Entry → Heap → ℕ → ℕ → List OpenPrune → Volume → Foreigners → List Event → Type 0
 IsLegalBeyond free start now history h root last running opening foreigners events =
     (more : List Event) × IsLegalOver free start now history h root last running opening foreigners (events ++ more)

@@ -1,5 +1,9 @@
 pub mod Ledger
 pub mod Counts
+pub mod State
+pub mod Running
+pub mod Numbers
+pub mod Open
 pub mod History
 pub mod Caused
 pub mod Told
@@ -7,13 +11,14 @@ pub mod Calls
 pub mod Inside
 pub mod Served
 pub mod Live
-pub mod State
 pub mod Replied
 pub mod Answer
+pub mod Unit
 pub mod Seen
 pub mod Crash
 pub mod Core
 pub mod Staged
+pub mod Jobs
 pub mod Opened
 pub mod Mounting
 pub mod Finished

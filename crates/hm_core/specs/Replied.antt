@@ -1,5 +1,5 @@
 -- What the reply of a call tells exactly: of the space over which it was answered, and of a device that failed within it.
-use Rattle.std.specs.Prelude.{◌≡◌, ◌⊎◌, ℕ, ◌+◌, ◌-◌, List, None, Some, slice_get}
+use Rattle.std.specs.Prelude.{◌≡◌, ◌⊎◌, ℕ, ◌+◌, ◌-◌, List, Some, slice_get}
 use Rattle.hm_types.specs.Elements.{FullElement}
 use Rattle.hm_types.specs.Faults.{IsMedia}
 use Rattle.hm_types.specs.Hash.{name_hash}
@@ -16,18 +16,18 @@ use Rattle.hm_model.specs.declared.reply.Reply.TheVariants.{Exists, NotFound, No
 use Rattle.hm_model.specs.declared.reply.Reply.TheVariants.{CrossPfs, IntoItself, HashFull, PfsFull, NoSnapshots, TooManyIntervals, NotSlave, NotMaster}
 use Rattle.hm_model.specs.declared.reply.Reply.TheVariants.{IdsSpent, NoSpace, Media, Damaged, NoMemory, SharedDiffers, BeginDiffers, StreamBad, StreamShort}
 use Rattle.hm_model.specs.declared.reply.Reply.TheVariants.{StreamFault, EndPruned, Busy, NotLink, NotFile}
+use Rattle.hm_calls.specs.Answered.{AsksBeside, IsAnswerable}
 use Rattle.hm_calls.specs.Call.{IsCall}
-use Rattle.hm_calls.specs.Commands.{IsOnTrees}
 use Rattle.hm_calls.specs.Due.{due_over}
-use Rattle.hm_calls.specs.Replies.{Asks}
 use Rattle.hm_stored.specs.Basis.{states_of}
 use Rattle.hm_stored.specs.Heap.{Heap, room_of}
 use Rattle.hm_stored.specs.Standing.{basis_now}
 use Rattle.hm_state.specs.Volume.{HoldsVolume}
+use Rattle.hm_core.specs.Numbers.{numbers_told}
 use Rattle.hm_core.specs.State.{CoreState}
-use Rattle.hm_core.specs.Told.{TellsFailure}
+use Rattle.hm_core.specs.Told.{TellsFailure, told_beside}
 use Rattle.hm_core.specs.declared.step.Step.{Step}
-use Rattle.hm_core.specs.declared.step.Step.TheVariants.{Answered, MustFlush, Spent}
+use Rattle.hm_core.specs.declared.step.Step.TheVariants.{Answered, MustFlush, Opened, Spent}
 
 -- How many big-blocks are free, counted from what the trees of a space refer to: those of the pool that no zone appends to, and in
 -- which nothing is live in the committed tree, in the frozen one, or in the one of now, which begins at this root.
@@ -85,13 +85,13 @@ TellsMedia old new (Busy opening) = Unit {0}
 TellsMedia old new NotLink = Unit {0}
 TellsMedia old new NotFile = Unit {0}
 
--- The reply of a call over a space, over which the count of the device's faults went from one to another. Of a call on names or on
--- the bytes of files it is the one that each such call is due whose trees the elements show, by the next id: `no space` exactly where
+-- The reply of a call over a space, over which the count of the device's faults went from one to another. Of a call on names, on the
+-- bytes of files or on pseudo file systems it is the one that each such call is due whose trees the elements show, by the next id: `no space` exactly where
 -- the zones that lack room are more than the big-blocks that are free and not held back, with both numbers. `df` tells the pool and
 -- how many are free. Or it tells that the device failed in this call, or want of memory.
-pub record IsReplied (faults faults' last : ℕ) (command : Command) (h : Heap) (root : ℕ) (reply : Reply) : Type 0 where
+pub record IsReplied (numbers faults faults' last : ℕ) (command : Command) (h : Heap) (root : ℕ) (reply : Reply) : Type 0 where
   pub media : TellsMedia faults faults' reply
-  pub due : IsOnTrees command → OnHeld h root last (λ es. (call : Call) → IsCall name_hash (last + 1) es call → Asks command None call
+  pub due : IsAnswerable command → OnHeld h root last (λ es. (call : Call) → IsCall name_hash (last + 1) es call → AsksBeside command (told_beside numbers) es call
       → (reply ≡ due_over call (room_of h) (free_now h root)) ⊎ TellsFailure faults faults' reply)
   pub space : command ≡ Df → OnHeld h root last (λ _. (reply ≡ Space (h.bigblocks - first_pool h.bigblocks) (free_now h root))
       ⊎ TellsFailure faults faults' reply)
@@ -100,6 +100,9 @@ pub record IsReplied (faults faults' last : ℕ) (command : Command) (h : Heap) 
 abbrev pub RepliesExactly : CoreState → CoreState → Command → Step → Type 0
 RepliesExactly old new command (Answered place) =
     (entry : Entry) → slice_get new.history place ≡ Some entry
-    → IsReplied old.counts.disk new.counts.disk old.last command old.heap old.root entry.reply
+    → IsReplied (numbers_told old.history) old.counts.disk new.counts.disk old.last command old.heap old.root entry.reply
+RepliesExactly old new command (Opened place ticket) =
+    (entry : Entry) → slice_get new.history place ≡ Some entry
+    → IsReplied (numbers_told old.history) old.counts.disk new.counts.disk old.last command old.heap old.root entry.reply
 RepliesExactly old new command (MustFlush back) = Unit {0}
 RepliesExactly old new command Spent = Unit {0}

@@ -1,21 +1,21 @@
 -- A core, as a contract sees it.
-use Rattle.std.specs.Prelude.{ℕ, ◌-◌, List, [], length, vec_capacity, vec_len}
+use Rattle.std.specs.Prelude.{ℕ, ◌-◌, length, vec_capacity, vec_len}
 use Rattle.hm_disk.specs.declared.disk.Disk.{Ghosts}
 use Rattle.hm_stored.specs.Space.{heap as heap_of_space}
 use Rattle.hm_core.specs.Counts.{disk_counts}
+use Rattle.hm_core.specs.Running.{open_prunes}
 use Rattle.hm_core.specs.State.{CoreDevices, CoreState}
 use Rattle.hm_core.specs.declared.volume.Core.{Core}
 
 -- so many entries fit, with one for the ending of each call that is open
-abbrev pub spare_of : ℕ → ℕ → List ℕ → ℕ
-spare_of capacity entries running = capacity - entries - length running
+abbrev pub spare_of : ℕ → ℕ → ℕ → ℕ
+spare_of capacity entries running = capacity - entries - running
 
--- no call stays open
 abbrev pub seen : {D I O : Type 0} {g : Ghosts D} → Core D I O g → CoreState
 seen {g = g} c = record {
   history = c.history.items;
-  running = [];
-  spare = spare_of (vec_capacity c.history) (vec_len c.history) [];
+  running = open_prunes c.running.items;
+  spare = spare_of (vec_capacity c.history) (vec_len c.history) (length c.running.items);
   last = c.last.0;
   boundary = c.flusher.header.last.0;
   mounted = record { first = c.first.0; free = c.free; counts = disk_counts c.start };

@@ -3,11 +3,11 @@ use Rattle.std.specs.Prelude.{◌≡◌, ◌⊎◌}
 use Rattle.hm_model.specs.Forms.{IsInRange}
 use Rattle.hm_model.specs.declared.command.Command.{Command}
 use Rattle.hm_model.specs.declared.command.Command.TheVariants.{Df, Sync, Synctid}
-use Rattle.hm_calls.specs.Commands.{IsOnTrees}
+use Rattle.hm_calls.specs.Answered.{IsAnswerable}
 
--- a call on names or on the bytes of files, or one that tells the space
+-- a call that a store answers: on names, on the bytes of files, or on pseudo file systems; or one that tells the space
 abbrev pub IsOnStore : Command → Type 0
-IsOnStore command = IsOnTrees command ⊎ (command ≡ Df)
+IsOnStore command = IsAnswerable command ⊎ (command ≡ Df)
 
 -- a call that waits until all that was answered before it is committed
 abbrev pub IsSync : Command → Type 0

@@ -9,7 +9,7 @@ use Rattle.hm_flush.specs.Calls.{StageFails, StageSucceeds}
 use Rattle.hm_model.specs.declared.command.Command.{Command}
 use Rattle.hm_core.specs.declared.staged.Staged.{Staged}
 use Rattle.hm_core.specs.declared.staged.Staged.TheVariants.{More, Refused, Spent}
-use Rattle.hm_core.specs.Core.{Enters, Waits}
+use Rattle.hm_core.specs.Core.{EndsAtOnce, Waits}
 use Rattle.hm_core.specs.State.{CoreState}
 use Rattle.hm_core.specs.Told.{TellsFailure}
 
@@ -45,9 +45,8 @@ Settles core = core.flush.at ≡ Idle → IfSome core.heap.disk (λ t. t.unsettl
 -- be frozen.
 pub record Refuses (old new : CoreState) (lane line : ℕ) (command : Command) : Type 0 where
   pub failed : StageFails old.flush new.flush old.heap.pages new.heap.pages
-  pub enters : Enters old new lane line old.last command
-  pub running : new.running ≡ old.running
-  pub cause : TellsFailure old.counts.disk new.counts.disk enters.entry.reply
+  pub ends : EndsAtOnce old new lane line old.last command
+  pub cause : TellsFailure old.counts.disk new.counts.disk ends.enters.entry.reply
 
 -- A stage was made for a call, which is handed back; or it failed, and the call was refused and entered, or no id was left for that.
 abbrev pub Stages : CoreState → CoreState → ℕ → ℕ → Command → Staged → Type 0

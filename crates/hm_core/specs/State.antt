@@ -1,5 +1,5 @@
 -- What a contract sees of a core.
-use Rattle.std.specs.Prelude.{ℕ, List}
+use Rattle.std.specs.Prelude.{ℕ, List, Option, true, false, ◌==◌, if◌then◌else◌, filter, find}
 use Rattle.hm_flush.specs.declared.flush.Flush.{Flush}
 use Rattle.hm_model.specs.Caused.{Counts}
 use Rattle.hm_model.specs.declared.entry.Entry.{Entry}
@@ -12,13 +12,28 @@ pub record Mounted : Type 0 where
   pub free : ℕ
   pub counts : Counts
 
--- The run's history, the opening ids of the calls that are open, and how many more entries there is room for beside the endings of
--- these; the last id that was drawn, and the last one that is committed;
--- what there was at mounting, and the counts of faults by now; the header that counts on the disk and how far a flush has come;
--- what its space holds, and where the tree begins in it. No device is part of it.
+-- A prune that is open: the id, the lane and the line of its opening, the PFS that it works on, and the ids that it keeps there.
+pub record OpenPrune : Type 0 where
+  pub opening : ℕ
+  pub lane : ℕ
+  pub line : ℕ
+  pub pfs : ℕ
+  pub kept : List (ℕ × ℕ)
+
+-- the open prune that was opened with an id, and those that are open beside it
+abbrev pub prune_with : ℕ → List OpenPrune → Option OpenPrune
+prune_with opening running = find (λ (p : OpenPrune). p.opening == opening) running
+
+abbrev pub prunes_beside : ℕ → List OpenPrune → List OpenPrune
+prunes_beside opening running = filter (λ (p : OpenPrune). if p.opening == opening then false else true) running
+
+-- The run's history, the prunes that are open, and how many more entries there is room for beside the endings of
+-- these; the last id that was drawn, and the last one that is committed; what there was at mounting, and the counts of faults by now; the
+-- header that counts on the disk and how far a flush has come; what its space holds, and where the tree begins in it. No device is part of
+-- it.
 pub record CoreState : Type 0 where
   pub history : List Entry
-  pub running : List ℕ
+  pub running : List OpenPrune
   pub spare : ℕ
   pub last : ℕ
   pub boundary : ℕ

@@ -1,5 +1,5 @@
 -- What a store of elements tells in a call over a space, and what the call answers where it fails.
-use Rattle.std.specs.Prelude.{◌≡◌, ◌⊎◌, ℕ, ◌-◌, ◌^◌, ◌≤◌, List, Option, Some, IsSomeAnd}
+use Rattle.std.specs.Prelude.{◌≡◌, ◌⊎◌, ℕ, ◌-◌, ◌^◌, ◌≤◌, List, Option, None, Some, IsSomeAnd}
 use Rattle.hm_types.specs.Elements.{FullElement}
 use Rattle.hm_types.specs.Faults.{IsMedia}
 use Rattle.hm_types.specs.Layout.{first_pool}
@@ -15,6 +15,7 @@ use Rattle.hm_model.specs.Needs.{floor}
 use Rattle.hm_model.specs.declared.entry.Entry.{Entry}
 use Rattle.hm_model.specs.declared.reply.Reply.{Reply}
 use Rattle.hm_model.specs.declared.reply.Reply.TheVariants.{Damaged, Media, NoMemory, Space}
+use Rattle.hm_calls.specs.declared.answered.Beside.{Beside}
 use Rattle.hm_stored.specs.Heap.{Heap}
 use Rattle.hm_stored.specs.Known.{AreKnown}
 use Rattle.hm_stored.specs.Standing.{Holds}
@@ -47,6 +48,11 @@ ArePages h = (at : ℕ) (page : List ℕ) → h.pages.current at ≡ Some page �
 -- a space holds all that another one holds, by a root each
 abbrev pub HoldsSame : Heap → ℕ → Heap → ℕ → Type 0
 HoldsSame old root new root' = (es : List FullElement) → Holds old root es → Holds new root' es
+
+-- what a core tells its calls beside the store: no mirror or upgrade call is open, and all numbers of pseudo file systems below this one
+-- are used
+abbrev pub told_beside : ℕ → Beside
+told_beside numbers = record { busy = None; numbers = numbers }
 
 -- the reply that tells a fault
 abbrev pub reply_to : Fault → Reply

@@ -9,6 +9,7 @@ ghost use Rattle.hm_core.specs.Served.{IsAsked};
 
 use crate::calls::answer_over;
 use crate::space::tell_space;
+use hm_calls::Answered;
 use hm_disk::Disk;
 use hm_flush::Flusher;
 use hm_model::{Command, Reply};
@@ -24,21 +25,22 @@ pub(crate) fn answer_asked<D: Disk>(
     flusher: &Flusher,
     command: &Command,
     last: Id,
-) -> Reply
+    numbers: u32,
+) -> Answered
     requires closed { IsClosed (heap stored.old.space) }
     requires asked { IsAsked command.now }
     requires left { last.0 < GREATEST_ID }
-    ensures answers { AnswersOver flusher.now.header.last.0 (D.faults stored.old.space.disk)
+    ensures answers { AnswersOver numbers flusher.now.header.last.0 (D.faults stored.old.space.disk)
         (D.faults stored.new.space.disk) last.0 command.now
         (heap stored.old.space) (heap stored.new.space) stored.old.root stored.new.root result }
     ensures crashes { LeavesNow (D.left_since stored.old.space.disk) (D.left_since stored.new.space.disk)
         (D.told stored.new.space.disk) }
 {
     match command {
-        Command::Sync | Command::Synctid => Reply::Synced {
+        Command::Sync | Command::Synctid => Answered::Replied(Reply::Synced {
             boundary: flusher.boundary(),
-        },
-        Command::Df => tell_space(stored),
-        _ => answer_over(alloc, stored, command, last),
+        }),
+        Command::Df => Answered::Replied(tell_space(stored)),
+        _ => answer_over(alloc, stored, command, last, numbers),
     }
 }

@@ -2,13 +2,14 @@
 ghost use Rattle.std.specs.Prelude.{◌≡◌, ℕ, ◌<◌};
 ghost use Rattle.hm_types.specs.declared.limits.TheConstants.{GREATEST_ID};
 ghost use Rattle.hm_model.specs.Forms.{IsInRange};
-ghost use Rattle.hm_calls.specs.Commands.{IsOnTrees};
+ghost use Rattle.hm_calls.specs.Answered.{IsAnswerable};
 ghost use Rattle.hm_stored.specs.Space.{heap};
 ghost use Rattle.hm_stored.specs.Turn.{IsClosed};
 ghost use Rattle.hm_core.specs.Answer.{AnswersOver};
 ghost use Rattle.hm_core.specs.Crash.{LeavesNow};
 ghost use Rattle.hm_core.specs.Told.{reply_to};
 
+use hm_calls::{Answered, Beside};
 use hm_disk::Disk;
 use hm_model::{Command, Reply};
 use hm_step::answer_next;
@@ -16,21 +17,24 @@ use hm_stored::{Stored, what_a_crash_leaves_over_calls};
 use hm_types::{Fault, Id};
 use std::alloc::Global;
 
-/// Answers a call on names or file bytes by the id after `last`, over the store of a volume in which no
-/// call is open, and keeps what it changed, or drops it all where the device failed, memory was
-/// refused, or the root of the tree would stand outside the pool: that is answered as want of memory.
+/// Answers a call on names, on the bytes of files or on pseudo file systems, or the opening of a prune, by
+/// the id after `last`, over the store of a volume in which no call is open, and keeps what it changed, or
+/// drops it all where the device failed, memory was refused, or the root of the tree would stand outside the
+/// pool: that is answered as want of memory. All numbers of pseudo file systems below `numbers` are used.
 /// Each history that was legal over an opening volume goes on legally with the entry of the call, where no
-/// fewer big-blocks are free than its least. What a crash within it may have left, one afterwards may.
+/// fewer big-blocks are free than its least, and a prune that the call opened is open then. What a crash
+/// within it may have left, one afterwards may.
 pub fn answer_over<D: Disk>(
     alloc: Global,
     stored: &mut Stored<D>,
     command: &Command,
     last: Id,
-) -> Reply
+    numbers: u32,
+) -> Answered
     requires closed { IsClosed (heap stored.old.space) }
-    requires served { IsOnTrees command.now × IsInRange command.now }
+    requires served { IsAnswerable command.now × IsInRange command.now }
     requires left { last.0 < GREATEST_ID }
-    ensures answers { (boundary : ℕ) → AnswersOver boundary (D.faults stored.old.space.disk)
+    ensures answers { (boundary : ℕ) → AnswersOver numbers boundary (D.faults stored.old.space.disk)
         (D.faults stored.new.space.disk) last.0 command.now
         (heap stored.old.space) (heap stored.new.space) stored.old.root stored.new.root result }
     ensures crashes { LeavesNow (D.left_since stored.old.space.disk) (D.left_since stored.new.space.disk)
@@ -38,19 +42,23 @@ pub fn answer_over<D: Disk>(
 {
     what_a_crash_leaves_over_calls::<D>();
     stored.begin(last);
-    match answer_next(alloc, stored, command, last, None) {
-        Ok(reply) if stored.can_keep() => {
+    let beside = Beside {
+        busy: None,
+        numbers,
+    };
+    match answer_next(alloc, stored, command, last, beside) {
+        Ok(answered) if stored.can_keep() => {
             stored.keep();
             stored.pages_are_bytes();
-            reply
+            answered
         }
         Ok(_) => {
             stored.undo();
-            Reply::NoMemory
+            Answered::Replied(Reply::NoMemory)
         }
         Err(fault) => {
             stored.undo();
-            failure(fault)
+            Answered::Replied(failure(fault))
         }
     }
 }

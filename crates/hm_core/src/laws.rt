@@ -25,24 +25,28 @@ ghost use Rattle.hm_model.specs.declared.command.Command.TheVariants.{Df};
 ghost use Rattle.hm_model.specs.declared.entry.Entry.{Entry};
 ghost use Rattle.hm_model.specs.declared.reply.Reply.TheVariants.{Synced};
 ghost use Rattle.hm_image.specs.StandFor.{StandFor};
-ghost use Rattle.hm_calls.specs.Commands.{IsOnTrees};
+ghost use Rattle.hm_calls.specs.Answered.{IsAnswerable, IsFormOf};
 ghost use Rattle.hm_calls.specs.Due.{due_over};
+ghost use Rattle.hm_calls.specs.declared.answered.Answered.{Answered};
+ghost use Rattle.hm_step.specs.Next.{UsedBelow};
 ghost use Rattle.hm_step.specs.Seen.{AreGiven};
 ghost use Rattle.hm_stored.specs.Content.{DropsContent, KeepsContent, OpensContent};
-ghost use Rattle.hm_stored.specs.Heap.{Heap, content_of, extents_in, free_of, pages_of, room_of};
+ghost use Rattle.hm_stored.specs.Heap.{Heap, begun_content, extents_in, free_of, pages_of, room_of};
 ghost use Rattle.hm_stored.specs.Known.{AreKnown, is_known};
 ghost use Rattle.hm_stored.specs.Standing.{Holds};
 ghost use Rattle.hm_stored.specs.Told.{elements_told};
 ghost use Rattle.hm_stored.specs.Turn.{IsClosed};
+ghost use Rattle.hm_core.specs.Answer.{running_after};
 ghost use Rattle.hm_core.specs.Calls.{Fails, IsNextCall, Serves};
 ghost use Rattle.hm_core.specs.Core.{Follows, IsSoundCore};
 ghost use Rattle.hm_core.specs.Counts.{AreLater};
 ghost use Rattle.hm_core.specs.History.{IsLegalBeyond, IsLegalOver, setting_of, up_to, volume_of};
 ghost use Rattle.hm_core.specs.Inside.{AreDrawnBy, AreUpTo};
 ghost use Rattle.hm_core.specs.Ledger.{IsPaid};
+ghost use Rattle.hm_core.specs.Numbers.{numbers_told};
 ghost use Rattle.hm_core.specs.Replied.{IsReplied, free_now};
 ghost use Rattle.hm_core.specs.Served.{IsServed, IsSync};
-ghost use Rattle.hm_core.specs.State.{CoreState};
+ghost use Rattle.hm_core.specs.State.{CoreState, OpenPrune};
 ghost use Rattle.hm_core.specs.Told.{ArePages, HoldsSame, HoldsTold, OpensStore, TellsFailure, TellsHeld, TellsSpace, reply_to};
 ghost use Rattle.hm_state.specs.Volume.{HoldsVolume};
 
@@ -69,23 +73,26 @@ pub fn a_core_begins_with_no_history()
 
 /// A call that was served: where a history is legal over an opening volume by some events, and the space
 /// holds the volume after them, a call that a store over the space served goes on with it legally, by
-/// these events and more, and the space that came of it holds the volume after that call. The store knows
-/// nothing of the volume.
+/// these events and more, and the space that came of it holds the volume after that call. A prune that the
+/// call opened is open then. The store knows nothing of the volume.
 pub fn a_served_call_goes_on<T: ElementStore + Extents>()
     ensures { (free : ℕ) (start faults faults' : Counts) (history : List Entry) (h h' : Heap)
-        (root root' last : ℕ) (running : List ℕ) (opening : Volume) (foreigners : Foreigners) (events : List Event)
-        (entry : Entry) (old new : T) →
+        (root root' last : ℕ) (running : List OpenPrune) (opening : Volume) (foreigners : Foreigners) (events : List Event)
+        (entry : Entry) (numbers : ℕ) (answered : Answered) (old new : T) →
         IsLegalOver free start faults history h root last running opening foreigners events →
+        UsedBelow numbers (volume_of opening foreigners events) →
         AreLater faults faults' → IsNextCall last entry →
-        Serves T.elements T.extents T.free (floor free history) last entry old new h h' root root' →
-        IsLegalBeyond free start faults' (history ++ entry ∷ []) h' root' (last + 1) running opening foreigners events }
+        Serves T.elements T.extents T.free (floor free history) numbers last entry answered old new h h' root root' →
+        IsFormOf entry.call answered →
+        IsLegalBeyond free start faults' (history ++ entry ∷ []) h' root' (last + 1)
+        (running_after entry answered running) opening foreigners events }
 {}
 
 /// A call that failed: the same, where the device failed or memory was refused, and the space that
 /// came of it holds what the one before held.
 pub fn a_failed_call_goes_on()
     ensures { (free : ℕ) (start faults faults' : Counts) (history : List Entry) (h h' : Heap)
-        (root root' last : ℕ) (running : List ℕ) (opening : Volume) (foreigners : Foreigners) (events : List Event)
+        (root root' last : ℕ) (running : List OpenPrune) (opening : Volume) (foreigners : Foreigners) (events : List Event)
         (entry : Entry) →
         IsLegalOver free start faults history h root last running opening foreigners events →
         AreLater faults faults' → IsNextCall last entry → Fails faults.disk faults'.disk entry h h' root root' →
@@ -96,7 +103,7 @@ pub fn a_failed_call_goes_on()
 /// least: the same, and the space stays.
 pub fn a_call_that_tells_space_goes_on()
     ensures { (free : ℕ) (start faults faults' : Counts) (history : List Entry) (h : Heap)
-        (root last : ℕ) (running : List ℕ) (opening : Volume) (foreigners : Foreigners) (events : List Event)
+        (root last : ℕ) (running : List OpenPrune) (opening : Volume) (foreigners : Foreigners) (events : List Event)
         (entry : Entry) →
         IsLegalOver free start faults history h root last running opening foreigners events →
         AreLater faults faults' → last < GREATEST_ID → entry.call ≡ Df → entry.id.0 ≡ last + 1 →
@@ -108,7 +115,7 @@ pub fn a_call_that_tells_space_goes_on()
 /// most this one.
 pub fn a_sync_goes_on()
     ensures { (free : ℕ) (start faults faults' : Counts) (history : List Entry) (h : Heap)
-        (root last : ℕ) (running : List ℕ) (opening : Volume) (foreigners : Foreigners) (events : List Event)
+        (root last : ℕ) (running : List OpenPrune) (opening : Volume) (foreigners : Foreigners) (events : List Event)
         (entry : Entry) (boundary : Id) →
         IsLegalOver free start faults history h root last running opening foreigners events →
         AreLater faults faults' → last < GREATEST_ID → IsSync entry.call → entry.id.0 ≡ last + 1 →
@@ -121,7 +128,7 @@ pub fn a_sync_goes_on()
 /// before held.
 pub fn a_refused_call_goes_on()
     ensures { (free : ℕ) (start faults faults' : Counts) (history : List Entry) (h h' : Heap)
-        (root root' last : ℕ) (running : List ℕ) (opening : Volume) (foreigners : Foreigners) (events : List Event)
+        (root root' last : ℕ) (running : List OpenPrune) (opening : Volume) (foreigners : Foreigners) (events : List Event)
         (entry : Entry) →
         IsLegalOver free start faults history h root last running opening foreigners events →
         AreLater faults faults' → last < GREATEST_ID → IsServed entry.call → entry.id.0 ≡ last + 1 →
@@ -168,7 +175,7 @@ pub fn an_opened_store_tells_what_was_held()
 pub fn a_dropped_store_holds_what_was_held()
     ensures { (h h' old new : Heap) (root root' back last : ℕ) (volume : Volume) →
         HoldsVolume h root last volume → OpensStore last h root h' root' →
-        content_of old ≡ content_of h' → IfSome (content_of old) (Holds new back) →
+        begun_content old ≡ begun_content h' → IfSome (begun_content old) (Holds new back) →
         HoldsSame h root new back }
 {}
 
@@ -184,7 +191,7 @@ pub fn a_kept_space_holds_what_was_told()
 pub fn a_dropped_space_holds_what_was_held()
     ensures { (h h' old new : Heap) (root last : ℕ) (volume : Volume) →
         HoldsVolume h root last volume → OpensContent root last h h' →
-        content_of old ≡ content_of h' → old.roots.current ≡ root → DropsContent old new →
+        begun_content old ≡ begun_content h' → old.roots.current ≡ root → DropsContent old new →
         HoldsSame h root new root }
 {}
 
@@ -228,14 +235,15 @@ pub fn as_many_are_free_as_the_trees_leave()
 /// trees that the space has, or it tells a failure.
 pub fn a_reply_is_due_in_its_history()
     ensures { (free : ℕ) (start counts : Counts) (history : List Entry) (h : Heap) (root last : ℕ)
-        (running : List ℕ) (opening : Volume) (foreigners : Foreigners) (events : List Event) (event : Event)
-        (faults faults' : ℕ) →
+        (running : List OpenPrune) (opening : Volume) (foreigners : Foreigners) (events : List Event) (event : Event)
+        (numbers faults faults' : ℕ) →
         IsLegalOver free start counts history h root last running opening foreigners events →
-        IsOnTrees event.entry.call →
+        IsAnswerable event.entry.call →
         ((es : List FullElement) → Holds h root es →
         AreGiven es (volume_of opening foreigners events) event.substitutes) →
+        UsedBelow numbers (volume_of opening foreigners events) →
         ReadsPaths (call_after (setting_of free start counts opening foreigners) events event) →
-        IsReplied faults faults' last event.entry.call h root event.entry.reply →
+        IsReplied numbers faults faults' last event.entry.call h root event.entry.reply →
         (event.entry.reply ≡ due_over (call_after (setting_of free start counts opening foreigners) events event)
         (room_of h) (free_now h root)) ⊎ TellsFailure faults faults' event.entry.reply }
 {}
@@ -255,4 +263,11 @@ pub fn a_call_is_paid_for<T: Extents>()
         ((zone : ℕ) → most zone ≤ reserve_of zone) → Charges T.room T.free most old new →
         IsPaid first (T.free old) calls (T.room old) →
         IsPaid first (T.free new) (calls + 1) (T.room new) }
+{}
+
+/// The numbers of pseudo file systems that a history tells are used in the volume after it.
+pub fn told_numbers_are_used()
+    ensures { (free : ℕ) (start counts : Counts) (opening : Volume) (foreigners : Foreigners)
+        (events : List Event) → IsLegal (setting_of free start counts opening foreigners) events →
+        UsedBelow (numbers_told (entries_of events)) (volume_of opening foreigners events) }
 {}

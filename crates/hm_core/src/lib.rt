@@ -3,13 +3,19 @@
 
 mod asked;
 mod calls;
+mod jobs;
 pub mod laws;
 mod making;
 mod mounting;
+mod numbers;
+mod placed;
+mod running;
 mod served;
 mod space;
 mod staged;
 mod step;
+mod ticket;
+mod unit;
 mod volume;
 
 pub use calls::answer_over;
@@ -19,4 +25,6 @@ pub use served::is_served;
 pub use space::tell_space;
 pub use staged::Staged;
 pub use step::Step;
+pub use ticket::{Ticket, UnitEnd};
+pub use unit::unit_over;
 pub use volume::Core;

@@ -1,11 +1,12 @@
 // Which commands are served.
-ghost use Rattle.std.specs.Prelude.{◌↔◌, IsTrue};
+ghost use Rattle.std.specs.Prelude.{◌≡◌, ◌↔◌, IsTrue};
+ghost use Rattle.hm_calls.specs.Answered.{is_prune};
 ghost use Rattle.hm_core.specs.Served.{IsServed, IsSync};
 
 use hm_model::Command;
 
-/// Whether a core serves a command: the calls on names and on the bytes of files, `df`, `sync` and
-/// `synctid`.
+/// Whether a core serves a command: the calls on names, on the bytes of files and on pseudo file systems,
+/// prunes, `df`, `sync` and `synctid`. `pfs-upgrade`, mirror calls and `reblock` are not served yet.
 pub fn is_served(command: &Command) -> bool
     ensures { IsTrue result ↔ IsServed command.now }
 {
@@ -26,6 +27,11 @@ pub fn is_served(command: &Command) -> bool
             | Command::Cat { .. }
             | Command::Stat { .. }
             | Command::Readlink { .. }
+            | Command::PfsMaster { .. }
+            | Command::PfsSlave { .. }
+            | Command::PfsStatus { .. }
+            | Command::Prune { .. }
+            | Command::PruneAll { .. }
             | Command::Df
             | Command::Sync
             | Command::Synctid
@@ -37,4 +43,11 @@ pub(crate) fn is_sync(command: &Command) -> bool
     ensures { IsTrue result ↔ IsSync command.now }
 {
     matches!(command, Command::Sync | Command::Synctid)
+}
+
+/// Whether a command opens a prune.
+pub(crate) fn is_prune(command: &Command) -> bool
+    ensures { result ≡ is_prune command.now }
+{
+    matches!(command, Command::Prune { .. } | Command::PruneAll { .. })
 }

@@ -2,6 +2,7 @@
 ghost use Rattle.std.specs.Prelude.{ℕ, ◌<◌};
 ghost use Rattle.hm_types.specs.declared.limits.TheConstants.{GREATEST_ID};
 ghost use Rattle.hm_model.specs.declared.command.Command.TheVariants.{Df};
+ghost use Rattle.hm_calls.specs.declared.answered.Answered.TheVariants.{Replied};
 ghost use Rattle.hm_stored.specs.Space.{heap};
 ghost use Rattle.hm_stored.specs.Turn.{IsClosed};
 ghost use Rattle.hm_core.specs.Answer.{AnswersOver};
@@ -17,9 +18,9 @@ use hm_types::first_pool;
 /// and how many of them are free. Each page of layer 2 is read once a state.
 pub fn tell_space<D: Disk>(stored: &mut Stored<D>) -> Reply
     requires closed { IsClosed (heap stored.old.space) }
-    ensures answers { (boundary last : ℕ) → last < GREATEST_ID →
-        AnswersOver boundary (D.faults stored.old.space.disk) (D.faults stored.new.space.disk) last Df
-        (heap stored.old.space) (heap stored.new.space) stored.old.root stored.new.root result }
+    ensures answers { (numbers boundary last : ℕ) → last < GREATEST_ID →
+        AnswersOver numbers boundary (D.faults stored.old.space.disk) (D.faults stored.new.space.disk) last Df
+        (heap stored.old.space) (heap stored.new.space) stored.old.root stored.new.root (Replied result) }
     ensures crashes { LeavesNow (D.left_since stored.old.space.disk) (D.left_since stored.new.space.disk)
         (D.told stored.new.space.disk) }
 {

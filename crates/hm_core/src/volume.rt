@@ -1,19 +1,27 @@
 // One volume in use.
+ghost use Rattle.std.specs.Prelude.{◌≡◌, ◌-◌, ◌≤◌, length, vec_capacity, vec_len};
 ghost use Rattle.hm_stored.specs.Space.{heap};
-ghost use Rattle.hm_core.specs.Caused.{IsCausedFrom};
+ghost use Rattle.hm_core.specs.Caused.{IsCausedWith};
 ghost use Rattle.hm_core.specs.Counts.{disk_counts};
 ghost use Rattle.hm_core.specs.Inside.{IsInOrder};
+ghost use Rattle.hm_core.specs.Numbers.{numbers_told};
+ghost use Rattle.hm_core.specs.Running.{open_prunes};
 
-use crate::asked::answer_asked;
 use crate::calls::failure;
 use crate::mounting::open_space;
+use crate::numbers::numbers_by;
+use crate::placed::answer_placed;
+use crate::running::Running;
 use crate::served::is_sync;
 use crate::staged::Staged;
 use crate::step::Step;
+use crate::ticket::Ticket;
+use hm_calls::Answered;
 use hm_disk::Disk;
 use hm_flush::{Flusher, Stage};
 use hm_header::Header;
-use hm_model::{Command, Entry};
+use hm_model::{Command, Entry, Reply};
+use hm_prune::Prune;
 use hm_recover::{OpenFault, Opened, recover};
 use hm_stored::Stored;
 use hm_types::{FULL_GROUP_PAGES, Fault, GREATEST_ID, Id, NoMemory};
@@ -26,19 +34,25 @@ use std::alloc::Global;
 /// stood, and all else by a flush, stage by stage, between any two calls.
 #[derive(Drop)]
 pub struct Core<D: Disk, I, O> {
-    alloc: Global,
-    stored: Stored<D>,
-    input: I,
-    output: O,
-    flusher: Flusher,
-    last: Id,
-    first: Id,
-    free: u32,
-    start: u64,
-    history: Vec<Entry>,
+    pub(crate) alloc: Global,
+    pub(crate) stored: Stored<D>,
+    pub(crate) input: I,
+    pub(crate) output: O,
+    pub(crate) flusher: Flusher,
+    pub(crate) last: Id,
+    pub(crate) first: Id,
+    pub(crate) free: u32,
+    pub(crate) start: u64,
+    pub(crate) history: Vec<Entry>,
+    // All numbers of pseudo file systems below this one are used, as the history tells.
+    pub(crate) numbers: u32,
+    // The prunes that are open. The history has a place for the ending of each.
+    pub(crate) running: Vec<Running>,
+    ghost placed: { length running.items ≤ vec_capacity history - vec_len history },
+    ghost numbered: { numbers ≡ numbers_told history.items },
     ghost ordered: { ∥ IsInOrder flusher last.0 free (heap stored.space) history.items ∥₁ },
-    ghost caused: { ∥ IsCausedFrom first.0 (disk_counts start)
-        (disk_counts (D.faults stored.space.disk)) last.0 history.items ∥₁ },
+    ghost caused: { ∥ IsCausedWith first.0 (disk_counts start)
+        (disk_counts (D.faults stored.space.disk)) last.0 (open_prunes running.items) history.items ∥₁ },
 }
 
 // How it is opened, and what its use ends with.
@@ -89,6 +103,8 @@ impl<D: Disk, I, O> Core<D, I, O> {
                     free,
                     start: space.disk().faults(),
                     history: Vec::new(alloc),
+                    numbers: 0,
+                    running: Vec::new(alloc),
                     stored: Stored::over(space, header.root),
                 };
                 core.core_is_sound();
@@ -160,7 +176,7 @@ impl<D: Disk, I, O> Core<D, I, O> {
         ensures keeps { seen self.new ≡ record (seen self.old) { spare = (seen self.new).spare } }
         ensures streams { devices self.new ≡ devices self.old }
     {
-        self.history.reserve(entries as usize)?;
+        self.history.reserve(entries as usize + self.running.len())?;
         Ok(())
     }
 }
@@ -177,7 +193,8 @@ impl<D: Disk, I, O> Core<D, I, O> {
     /// Answers a call and enters it in the history, with the next id. Where no id is left, or the call
     /// must wait for a flush, it does nothing. The history must have room for two entries. `since` is
     /// the last id when the call began: a sync is answered once the boundary, which it tells, is no
-    /// earlier.
+    /// earlier. The opening of a prune that is accepted leaves the prune open, and a place in the history
+    /// for its ending. Where memory for what it keeps is refused, the call is.
     pub fn call(&mut self, lane: u8, line: u32, since: Id, command: Command) -> Step
         requires room { 2 ≤ (seen self.old).spare }
         requires since { since.0 ≤ (seen self.old).last }
@@ -198,25 +215,50 @@ impl<D: Disk, I, O> Core<D, I, O> {
         if self.must_flush(since, &command) {
             return Step::MustFlush(command);
         }
-        let reply = answer_asked(
+        let answered = answer_placed(
             self.alloc,
             &mut self.stored,
             &self.flusher,
+            &mut self.running,
             &command,
             self.last,
+            self.numbers,
         );
         let id = Id(self.last.0 + 1);
         let place = self.history.len();
         self.last = id;
-        self.history.push_reserved(Entry {
-            id,
-            lane,
-            line,
-            call: command,
-            reply,
-        });
-        self.core_is_sound();
-        Step::Answered(place)
+        match answered {
+            Answered::Replied(reply) => {
+                self.numbers = self.numbers.max(numbers_by(&command, &reply));
+                self.history.push_reserved(Entry {
+                    id,
+                    lane,
+                    line,
+                    call: command,
+                    reply,
+                });
+                self.core_is_sound();
+                Step::Answered(place)
+            }
+            Answered::Opened(led) => {
+                let reply = Reply::Done;
+                self.history.push_reserved(Entry {
+                    id,
+                    lane,
+                    line,
+                    call: command,
+                    reply,
+                });
+                self.running.push_reserved(Running {
+                    opening: id,
+                    lane,
+                    line,
+                    prune: Prune::new(led.pfs, led.kept),
+                });
+                self.core_is_sound();
+                Step::Opened(place, Ticket { opening: id })
+            }
+        }
     }
 
     // Whether a call waits for a flush.
@@ -300,7 +342,7 @@ impl<D: Disk, I, O> Core<D, I, O> {
 
     // Makes the stage that is due. The core goes on also as if no fault had been counted meanwhile: so the
     // call for which it was made can be refused with one.
-    fn make_stage(&mut self) -> Result<Stage, Fault>
+    pub(crate) fn make_stage(&mut self) -> Result<Stage, Fault>
         ensures stage { IsStaged (seen self.old) (seen self.new) result }
         ensures follows { Follows (D.left_since (devices self.old).disk) (D.left_since (devices self.new).disk)
             (seen self.old) (seen self.new) }

@@ -106,7 +106,7 @@ fn told(rt: &impl Abort, alloc: Global, core: &mut Volume, ask: Ask) -> Result<R
     let since = core.last();
     match core.call(3, 7, since, ask.command(alloc)?) {
         Step::Answered(place) => copy_of(rt, &core.entry(place).reply),
-        Step::MustFlush(_) | Step::Spent => panic!(rt; "not answered: {ask:?}"),
+        Step::Opened(..) | Step::MustFlush(_) | Step::Spent => panic!(rt; "not answered: {ask:?}"),
     }
 }
 

@@ -179,6 +179,7 @@ pub fn try_since(
     let since = up_to(since, core.last());
     match core.call(3, 7, since, ask.command(alloc)?) {
         Step::Answered(place) => outcome_of(rt, alloc, core.entry(place), ask, want),
+        Step::Opened(..) => panic!(rt; "opened: {ask:?}"),
         Step::MustFlush(back) => {
             assert!(rt; back == ask.command(alloc)?);
             stage_for(rt, alloc, core, ask, want)

@@ -3,11 +3,13 @@ use Rattle.std.proofs.Common.{inr, refl, sym, ap, subst}
 use Rattle.std.specs.Prelude.{IfErr}
 use Rattle.hm_types.specs.Faults.{IsCaused}
 use Rattle.hm_types.specs.declared.fault.Fault.TheVariants.{NoMemory as no_memory}
+use Rattle.hm_model.specs.declared.reply.Reply.TheVariants.{NoMemory as no_memory_reply}
 use Rattle.hm_pages.specs.Store.{contents}
 use Rattle.hm_stored.specs.Heap.{heap_of}
 use Rattle.hm_core.specs.Told.{TellsFailure}
-use Rattle.hm_core.proofs.AnswerLemmas.{balanced_begun, begun_some, caused_over, dropped_answers, fault_told, kept_answers, known_begun}
+use Rattle.hm_core.proofs.AnswerLemmas.{caused_over, dropped_answers, fault_told, kept_answers}
 use Rattle.hm_core.proofs.CrashLemmas.{leaves_around}
+use Rattle.hm_core.proofs.TurnLemmas.{balanced_begun, begun_some, known_begun}
 use Rattle.hm_core.proofs.calls.answer_over.Goals as goal
 
 pub answer_next-requires-clause-balanced : goal.answer_next-requires-clause-balanced
@@ -73,13 +75,13 @@ returns-in-Ok g c =
     record {
       answers = kept_answers (λ s. heap_of (contents s.space.pages.store) (g.D.Disk.told s.space.disk) s.space.books) (λ s. s.root)
           (heap_of (contents s.space.pages.store) (g.D.Disk.told s.space.disk) s.space.books) s.root c.args.last.0 s1 s2
-          (heap_of (contents s3.space.pages.store) (g.D.Disk.told s3.space.disk) s3.space.books) s3.root c.args.command.now c.in-Ok.reply
+          (heap_of (contents s3.space.pages.store) (g.D.Disk.told s3.space.disk) s3.space.books) s3.root c.args.command.now c.args.numbers
           (g.D.Disk.faults s.space.disk) (g.D.Disk.faults s3.space.disk) c.requires.closed s.space.kept c.begin.ensures.turn c.begin.ensures.root
           (ap (λ f. f.0) c.answer_next.ensures.borrowed.1) c.requires.served.0 c.requires.left c.answer_next.result
           (caused_over _ _ _ _ (g.D.Disk.faults s.space.disk) (g.D.Disk.faults s3.space.disk) c.answer_next.result
           (ap g.D.Disk.faults c.begin.ensures.disk) (ap g.D.Disk.faults c.keep.ensures.disk) c.answer_next.ensures.cause)
           (c.can_keep.ensures.0 c.if-can_keep.true).whole c.keep.ensures.turn c.keep.ensures.content c.keep.ensures.root c.pages_are_bytes.ensures s2.tree
-          c.in-Ok.ensures.step c.in-Ok.ensures.charges c.in-Ok.ensures.possible c.in-Ok.ensures.due;
+          c.in-Ok.answered c.in-Ok.ensures.step c.in-Ok.ensures.charges c.in-Ok.ensures.possible c.in-Ok.ensures.due c.in-Ok.ensures.form;
       crashes = leaves_around g.D.Disk.left_since g.D.Disk.told s.space.disk s1.space.disk s2.space.disk s3.space.disk c.begin.ensures.disk
           c.keep.ensures.disk (c.what_a_crash_leaves_over_calls.ensures s1 s2 c.answer_next.ensures.borrowed.1);
     }
@@ -94,12 +96,12 @@ returns-in-Ok-2 g c =
     record {
       answers = dropped_answers (λ s. heap_of (contents s.space.pages.store) (g.D.Disk.told s.space.disk) s.space.books) (λ s. s.root)
           (heap_of (contents s.space.pages.store) (g.D.Disk.told s.space.disk) s.space.books) s.root c.args.last.0 s1 s2
-          (heap_of (contents s3.space.pages.store) (g.D.Disk.told s3.space.disk) s3.space.books) s3.root c.args.command.now _
+          (heap_of (contents s3.space.pages.store) (g.D.Disk.told s3.space.disk) s3.space.books) s3.root c.args.command.now c.args.numbers
           (g.D.Disk.faults s.space.disk) (g.D.Disk.faults s3.space.disk) c.requires.closed s.space.kept c.begin.ensures.turn c.begin.ensures.root
           (ap (λ f. f.0) c.answer_next.ensures.borrowed.1) c.requires.served.0 c.requires.left c.answer_next.result
           (caused_over _ _ _ _ (g.D.Disk.faults s.space.disk) (g.D.Disk.faults s3.space.disk) c.answer_next.result
           (ap g.D.Disk.faults c.begin.ensures.disk) (ap g.D.Disk.faults c.undo.ensures.disk) c.answer_next.ensures.cause)
-          c.undo.ensures.turn c.undo.ensures.root c.undo.ensures.held (λ volume holds. inr refl) no_memory refl tt;
+          no_memory_reply c.undo.ensures.turn c.undo.ensures.root c.undo.ensures.held (λ volume holds. inr refl) no_memory refl tt;
       crashes = leaves_around g.D.Disk.left_since g.D.Disk.told s.space.disk s1.space.disk s2.space.disk s3.space.disk c.begin.ensures.disk
           c.undo.ensures.disk (c.what_a_crash_leaves_over_calls.ensures s1 s2 c.answer_next.ensures.borrowed.1);
     }
@@ -117,15 +119,15 @@ returns-in-Err g c =
     record {
       answers = dropped_answers (λ s. heap_of (contents s.space.pages.store) (g.D.Disk.told s.space.disk) s.space.books) (λ s. s.root)
           (heap_of (contents s.space.pages.store) (g.D.Disk.told s.space.disk) s.space.books) s.root c.args.last.0 s1 s2
-          (heap_of (contents s3.space.pages.store) (g.D.Disk.told s3.space.disk) s3.space.books) s3.root c.args.command.now c.failure.result
+          (heap_of (contents s3.space.pages.store) (g.D.Disk.told s3.space.disk) s3.space.books) s3.root c.args.command.now c.args.numbers
           (g.D.Disk.faults s.space.disk) (g.D.Disk.faults s3.space.disk) c.requires.closed s.space.kept c.begin.ensures.turn c.begin.ensures.root
           (ap (λ f. f.0) c.answer_next.ensures.borrowed.1) c.requires.served.0 c.requires.left c.answer_next.result cause
-          c.undo-in-Err.ensures.turn c.undo-in-Err.ensures.root c.undo-in-Err.ensures.held
+          c.failure.result c.undo-in-Err.ensures.turn c.undo-in-Err.ensures.root c.undo-in-Err.ensures.held
           (λ volume holds.
           subst (λ r. TellsFailure (g.D.Disk.faults s.space.disk) (g.D.Disk.faults s3.space.disk) r) (sym c.failure.ensures)
           (fault_told (λ s. heap_of (contents s.space.pages.store) (g.D.Disk.told s.space.disk) s.space.books) (λ s. s.root)
           (heap_of (contents s.space.pages.store) (g.D.Disk.told s.space.disk) s.space.books) s.root c.args.last.0 s1 s2
-          (heap_of (contents s3.space.pages.store) (g.D.Disk.told s3.space.disk) s3.space.books) s3.root c.args.command.now c.failure.result
+          (heap_of (contents s3.space.pages.store) (g.D.Disk.told s3.space.disk) s3.space.books) s3.root c.args.command.now c.args.numbers
           (g.D.Disk.faults s.space.disk) (g.D.Disk.faults s3.space.disk) c.requires.closed s.space.kept c.begin.ensures.turn c.begin.ensures.root
           (ap (λ f. f.0) c.answer_next.ensures.borrowed.1) c.requires.served.0 c.requires.left c.answer_next.result cause c.in-Err.fault
           c.in-Err.is volume holds))

@@ -30,9 +30,11 @@ invariant_of-self g c =
     let result = c.flush_stage-result.result in
     let flushes = subst (λ (x : Header). FlushesSpace x s.flusher f' h h' result) c.header_now-now.ensures.value made.ends in
     record {
+      placed = s.placed;
+      numbered = s.numbered;
       ordered = ∥∥₁_map s.ordered (ordered_staged (seen s) f' h' result flushes made.ready);
       caused = ∥∥₁_map s.caused (λ so_far.
-          caused_later s.first.0 (disk_counts s.start) (seen s).counts (disk_counts (g.D.Disk.faults t.space.disk)) s.last.0 s.history.items so_far
+          caused_later s.first.0 (disk_counts s.start) (seen s).counts (disk_counts (g.D.Disk.faults t.space.disk)) s.last.0 (seen s).running s.history.items so_far
           (disk_later (disk_counts 0) (seen s).counts.disk (g.D.Disk.faults t.space.disk) made.cause.counted.never_falls));
     }
 
