@@ -1,5 +1,5 @@
 -- The last flush, stage by stage, and what has come of a core by its end.
-use Rattle.std.proofs.Common.{◌≡◌, ◌≢◌, ◌⊎◌, ℕ, ◌<◌, ◌≤◌, List, [], Option, refl, sym, ◌∙◌, ap, subst, inl, inr, arith}
+use Rattle.std.proofs.Common.{◌≡◌, ◌≢◌, ◌⊎◌, ℕ, ◌≤◌, List, [], Option, refl, sym, ◌∙◌, ap, subst, inl, inr, arith}
 use Rattle.std.specs.Prelude.{Bool, Contains, Err, IfErr, IfSome, Ok, OnOk, Result, true, false}
 use Rattle.std.proofs.Math.Logic.{∥∥₁_map}
 use Rattle.hm_types.specs.declared.fault.Fault.{Fault}
@@ -161,7 +161,7 @@ caused_before left since mid core sound waits follows =
     subst (λ (m : Mounted). IsCausedFrom m.first m.counts counts core.last core.history) (sym follows.mounted)
     (subst (λ (n : ℕ). IsCausedFrom mid.mounted.first mid.mounted.counts counts n core.history) (sym waits.last)
     (subst (λ (h : List Entry). IsCausedFrom mid.mounted.first mid.mounted.counts counts mid.last h) (sym waits.history)
-    (caused_later mid.mounted.first mid.mounted.counts mid.counts counts mid.last mid.history so_far later))))
+    (caused_later mid.mounted.first mid.mounted.counts mid.counts counts mid.last [] mid.history (record { causes = so_far; opened = tt }) later).causes)))
 
 -- or it stopped there
 pub StopsUsing-failed : (lines : List Line) (past left since : LeftSince) (begun mid core : CoreState) (old new : Seen (List ℕ))

@@ -3,6 +3,7 @@ pub mod EndLemmas
 pub mod ExactLemmas
 pub mod FlushLemmas
 pub mod HexLemmas
+pub mod LineLemmas
 pub mod LinesLemmas
 pub mod PrepareLemmas
 pub mod OpenLemmas
@@ -14,4 +15,5 @@ pub mod ServeLemmas
 pub mod AloneLemmas
 pub mod AloneMoreLemmas
 pub mod TextLemmas
+pub mod UnitLemmas
 pub mod WaitLemmas

@@ -8,7 +8,7 @@ use Rattle.std.proofs.lemmas.Grind.{flat_map-append}
 use Rattle.std.proofs.lemmas.List.{length-take, take-append-drop, take_more}
 use Rattle.std.proofs.lemmas.List.Elements.{All-append, All-contains, All-from_recursion, All-more, Contains-append_cases}
 use Rattle.std.proofs.lemmas.List.Elements.{Contains-append_right, recursion_from_All}
-use Rattle.hm_calls.specs.Commands.{IsOnTrees}
+use Rattle.hm_calls.specs.Answered.{IsAnswerable}
 use Rattle.hm_model.specs.declared.command.Command.{Command}
 use Rattle.hm_model.specs.declared.command.Command.TheVariants.{Mkdir, Touch, Symlink, Snapshot, Ln, Mv, Write, Fill, Truncate, Rm, Rmdir, Ls, Cat, Stat, Readlink, Sync, Synctid, Prune, PruneAll, Reblock, PfsMaster, PfsSlave, PfsStatus, PfsUpgrade, MirrorRead, MirrorWrite, MirrorCopy, Df, Progress, End}
 use Rattle.hm_model.specs.declared.line.Line.{Line}
@@ -17,7 +17,7 @@ use Rattle.hm_model.specs.Out.{lines_in}
 use Rattle.hm_model.specs.Script.{Gives, IsFirstBadLine, IsGood, IsScriptOf, IsTooLong, ReadEach, blocks_of, goes_on, is_remark, with_line}
 use Rattle.hm_script.proofs.ScriptLemmas.{gives_is_one}
 use Rattle.hm_core.specs.Served.{IsServed}
-use Rattle.hm_shell.specs.Alone.{IsSingle, alone}
+use Rattle.hm_shell.specs.Alone.{BeginsCall, alone}
 use Rattle.hm_shell.specs.Lines.{NumbersRise, AreServedLines, IsFirstRefused, IsFirstUnserved, IsServable, IsServedLine, IsServedText}
 
 -- the lines of a script beside those that answer nothing
@@ -50,44 +50,44 @@ alone_blocks (None ∷ lines) each = alone_blocks lines each
 alone_blocks (Some line ∷ lines) each =
     rw (ends_here line lines each.0.lane) (ap (λ bs. (line ∷ []) ∷ bs) (alone_blocks lines each.1))
 
--- a command that is served is of one call
-on_trees_single : (command : Command) → IsOnTrees command → IsSingle command
-on_trees_single (Mkdir path) is = record { calls = λ e. absurd (cc); ends_at_once = refl; begins = refl }
-on_trees_single (Touch path) is = record { calls = λ e. absurd (cc); ends_at_once = refl; begins = refl }
-on_trees_single (Symlink target path) is = record { calls = λ e. absurd (cc); ends_at_once = refl; begins = refl }
-on_trees_single (Snapshot path) is = record { calls = λ e. absurd (cc); ends_at_once = refl; begins = refl }
-on_trees_single (Ln old new) is = record { calls = λ e. absurd (cc); ends_at_once = refl; begins = refl }
-on_trees_single (Mv old new) is = record { calls = λ e. absurd (cc); ends_at_once = refl; begins = refl }
-on_trees_single (Write path offset bytes) is = record { calls = λ e. absurd (cc); ends_at_once = refl; begins = refl }
-on_trees_single (Fill path offset count byte) is = record { calls = λ e. absurd (cc); ends_at_once = refl; begins = refl }
-on_trees_single (Truncate path size) is = record { calls = λ e. absurd (cc); ends_at_once = refl; begins = refl }
-on_trees_single (Rm path) is = record { calls = λ e. absurd (cc); ends_at_once = refl; begins = refl }
-on_trees_single (Rmdir path) is = record { calls = λ e. absurd (cc); ends_at_once = refl; begins = refl }
-on_trees_single (Ls path) is = record { calls = λ e. absurd (cc); ends_at_once = refl; begins = refl }
-on_trees_single (Cat path offset count) is = record { calls = λ e. absurd (cc); ends_at_once = refl; begins = refl }
-on_trees_single (Stat path) is = record { calls = λ e. absurd (cc); ends_at_once = refl; begins = refl }
-on_trees_single (Readlink path) is = record { calls = λ e. absurd (cc); ends_at_once = refl; begins = refl }
-on_trees_single (Prune path) is = absurd is
-on_trees_single (PruneAll path) is = absurd is
-on_trees_single (PfsMaster path shared) is = absurd is
-on_trees_single (PfsSlave path shared) is = absurd is
-on_trees_single (PfsStatus path) is = absurd is
-on_trees_single (PfsUpgrade path) is = absurd is
-on_trees_single (MirrorRead path begin) is = absurd is
-on_trees_single (MirrorWrite path) is = absurd is
-on_trees_single (MirrorCopy master slave limit) is = absurd is
-on_trees_single Sync is = absurd is
-on_trees_single Synctid is = absurd is
-on_trees_single (Reblock fill) is = absurd is
-on_trees_single Df is = absurd is
-on_trees_single Progress is = absurd is
-on_trees_single (End opening) is = absurd is
+-- a command that is served begins a call
+answerable_begins : (command : Command) → IsAnswerable command → BeginsCall command
+answerable_begins (Mkdir path) is = record { calls = λ e. absurd (cc); begins = refl }
+answerable_begins (Touch path) is = record { calls = λ e. absurd (cc); begins = refl }
+answerable_begins (Symlink target path) is = record { calls = λ e. absurd (cc); begins = refl }
+answerable_begins (Snapshot path) is = record { calls = λ e. absurd (cc); begins = refl }
+answerable_begins (Ln old new) is = record { calls = λ e. absurd (cc); begins = refl }
+answerable_begins (Mv old new) is = record { calls = λ e. absurd (cc); begins = refl }
+answerable_begins (Write path offset bytes) is = record { calls = λ e. absurd (cc); begins = refl }
+answerable_begins (Fill path offset count byte) is = record { calls = λ e. absurd (cc); begins = refl }
+answerable_begins (Truncate path size) is = record { calls = λ e. absurd (cc); begins = refl }
+answerable_begins (Rm path) is = record { calls = λ e. absurd (cc); begins = refl }
+answerable_begins (Rmdir path) is = record { calls = λ e. absurd (cc); begins = refl }
+answerable_begins (Ls path) is = record { calls = λ e. absurd (cc); begins = refl }
+answerable_begins (Cat path offset count) is = record { calls = λ e. absurd (cc); begins = refl }
+answerable_begins (Stat path) is = record { calls = λ e. absurd (cc); begins = refl }
+answerable_begins (Readlink path) is = record { calls = λ e. absurd (cc); begins = refl }
+answerable_begins (Prune path) is = record { calls = λ e. absurd (cc); begins = refl }
+answerable_begins (PruneAll path) is = record { calls = λ e. absurd (cc); begins = refl }
+answerable_begins (PfsMaster path shared) is = record { calls = λ e. absurd (cc); begins = refl }
+answerable_begins (PfsSlave path shared) is = record { calls = λ e. absurd (cc); begins = refl }
+answerable_begins (PfsStatus path) is = record { calls = λ e. absurd (cc); begins = refl }
+answerable_begins (PfsUpgrade path) is = absurd is
+answerable_begins (MirrorRead path begin) is = absurd is
+answerable_begins (MirrorWrite path) is = absurd is
+answerable_begins (MirrorCopy master slave limit) is = absurd is
+answerable_begins Sync is = absurd is
+answerable_begins Synctid is = absurd is
+answerable_begins (Reblock fill) is = absurd is
+answerable_begins Df is = absurd is
+answerable_begins Progress is = absurd is
+answerable_begins (End opening) is = absurd is
 
-served_single : (command : Command) → IsServed command → IsSingle command
-served_single command (inl (inl is)) = on_trees_single command is
-served_single command (inl (inr is)) = subst IsSingle (sym is) (record { calls = λ e. absurd (cc); ends_at_once = refl; begins = refl })
-served_single command (inr (inl is)) = subst IsSingle (sym is) (record { calls = λ e. absurd (cc); ends_at_once = refl; begins = refl })
-served_single command (inr (inr is)) = subst IsSingle (sym is) (record { calls = λ e. absurd (cc); ends_at_once = refl; begins = refl })
+served_begins : (command : Command) → IsServed command → BeginsCall command
+served_begins command (inl (inl is)) = answerable_begins command is
+served_begins command (inl (inr is)) = subst BeginsCall (sym is) (record { calls = λ e. absurd (cc); begins = refl })
+served_begins command (inr (inl is)) = subst BeginsCall (sym is) (record { calls = λ e. absurd (cc); begins = refl })
+served_begins command (inr (inr is)) = subst BeginsCall (sym is) (record { calls = λ e. absurd (cc); begins = refl })
 
 -- the texts of lines that are served
 served_texts : (number : ℕ) (texts : List (List ℕ)) (lines : List (Option Line)) → ReadEach number texts lines → AllByRecursion IsServable (somes lines)
@@ -108,7 +108,7 @@ served_each number (text ∷ texts) [] read each = absurd read
 served_each number (text ∷ texts) (None ∷ lines) read each = served_each (number + 1) texts lines read.1 each
 served_each number (text ∷ texts) (Some line ∷ lines) read each = (
   record {
-    by_itself = record { lane = each.0.lane; single = served_single line.command each.0.served };
+    by_itself = record { lane = each.0.lane; call = served_begins line.command each.0.served };
     asked = record { served = each.0.served; in_range = read.0.2.in_range };
   },
   served_each (number + 1) texts lines read.1 each.1,

@@ -1,32 +1,29 @@
 -- Lines that are served from the front.
 use Rattle.std.proofs.Common.{◌≡◌, ℕ, ◌+◌, ◌*◌, ◌<◌, ◌≤◌, List, [], ◌∷◌, ◌++◌, length, take, refl, subst, sym}
-use Rattle.std.proofs.Common.{◌∙◌, ap, inl, inr, arith, append_assoc, append-nil, length-append}
-use Rattle.std.specs.Prelude.{◌⊎◌, All, Contains, IfErr, OnErr, OnOk, Option, None, Some, Result, Ok, Err, slice_get}
+use Rattle.std.proofs.Common.{◌≢◌, ◌∙◌, ap, inl, inr, arith, append_assoc, append-nil, length-append}
+use Rattle.std.specs.Prelude.{◌⊎◌, All, Contains, OnErr, OnOk, Option, Result, Ok, Err}
 use Rattle.std.proofs.lemmas.List.Elements.{All-contains, Contains-append_cases, Contains-append_right}
 use Rattle.std.proofs.lemmas.Option.{IfSome_then}
-use Rattle.hm_image.proofs.ListLemmas.{only_one}
 use Rattle.hm_model.specs.Reply.{told_boundary}
 use Rattle.hm_types.specs.Faults.{Rose}
-use Rattle.hm_types.specs.declared.limits.TheConstants.{GREATEST_ID}
 use Rattle.hm_disk.specs.Moments.{LeftSince}
 use Rattle.hm_pipe.specs.Pipe.{Gains}
 use Rattle.hm_pipe.proofs.PipeLemmas.{Gains-none, Gains-append, Rose-wider}
 use Rattle.hm_model.specs.declared.entry.Entry.{Entry}
 use Rattle.hm_model.specs.declared.line.Line.{Line}
-use Rattle.hm_model.specs.Out.{IsOf, entry_words, printed_line, spent_words}
-use Rattle.hm_core.specs.Core.{Enters, Follows, IsSoundCore}
+use Rattle.hm_model.specs.Out.{printed_line}
+use Rattle.hm_core.specs.Core.{Follows, IsSoundCore}
 use Rattle.hm_core.specs.State.{CoreState}
 use Rattle.hm_core.proofs.CoreLemmas.{follows_further, follows_itself, follows_spare}
-use Rattle.hm_core.proofs.RepliedLemmas.{entry_there}
 use Rattle.hm_shell.specs.declared.stop.RunStop.{RunStop}
 use Rattle.hm_shell.specs.declared.stop.RunStop.TheVariants.{Usage, NotVolume, BadField, DiskFault, Damaged, ScriptFault, OutFault, NoMemory, BadLine, TooLong}
-use Rattle.hm_shell.specs.Alone.{AnswersEach, IsAlone, TellsAfter, line_text, out_text}
+use Rattle.hm_shell.specs.Alone.{AddsEntries, AnswersEach, IsAlone, TellsAfter, line_text, out_text, words_of}
 use Rattle.hm_shell.specs.Lines.{NumbersRise, IsServedLine}
 use Rattle.hm_shell.specs.Printing.{StoppedPrinting}
 use Rattle.hm_shell.specs.Seen.{Seen}
-use Rattle.hm_shell.specs.Serving.{AnswersLine, IsUncommitted, KeepsSize, RunsLine, Served, ServedInPart, ServesLine, Serving, StoppedServing}
-use Rattle.hm_shell.proofs.AloneMoreLemmas.{answers_more, answers_none, answers_spent}
-use Rattle.hm_shell.proofs.TextLemmas.{out_before, out_spent, out_answered, text_answered, text_spent}
+use Rattle.hm_shell.specs.Serving.{IsUncommitted, KeepsSize, RunsLine, Served, ServedInPart, ServesLine, Serving, StoppedServing}
+use Rattle.hm_shell.proofs.AloneMoreLemmas.{answers_more, answers_none, each_from}
+use Rattle.hm_shell.proofs.TextLemmas.{out_added, out_before, text_added}
 
 -- a line that was not printed was printed in part, and something of it only by a fault of the sink
 stopped_front : (line : List ℕ) (old new : Seen (List ℕ)) (stop : RunStop) → StoppedPrinting line old new stop
@@ -53,9 +50,9 @@ served_next lines before rest line each split =
     All-contains IsServedLine lines line each
     (subst (λ (ls : List Line). Contains ls line) (sym split) (Contains-append_right before (line ∷ rest) line (0, omega arith, refl)))
 
--- a history with one entry more has one
-not_empty : (history : List Entry) (e : Entry) → history ++ e ∷ [] ≡ [] → ⊥
-not_empty history e none = (let length_is = ap length none in let more = length-append history (e ∷ []) in absurd (omega (arith, length_is, more)))
+-- a history with an entry more has one
+not_empty : (history more : List Entry) (e : Entry) → history ++ e ∷ more ≡ [] → ⊥
+not_empty history more e none = (let length_is = ap length none in let sum = length-append history (e ∷ more) in absurd (omega (arith, length_is, sum)))
 
 -- What comes of one line more: the history answers it, it prints its text, and those before it print what they did.
 record HasRun (lines : List Line) (line : Line) (begun old new : CoreState) (text : List ℕ) : Type 0 where
@@ -65,59 +62,55 @@ record HasRun (lines : List Line) (line : Line) (begun old new : CoreState) (tex
   pub earlier : out_text lines new.history ≡ out_text lines old.history
   pub own : out_text (line ∷ []) new.history ≡ text
   pub both : out_text (lines ++ line ∷ []) new.history ≡ out_text lines old.history ++ text
-  pub spare : old.spare ≤ new.spare + 1
+  pub spare : old.spare ≤ new.spare + 2
 
 module _ (lines : List Line) (line : Line) (later : (l : Line) → Contains lines l → l.number < line.number) (alone : IsAlone line)
     (past mid : LeftSince) (begun old : CoreState) (held holds : Option (List ℕ)) (served : Served lines past mid begun old held holds) where
-  module _ (new : CoreState) (enters : Enters old new line.lane line.number old.last line.command) (open_is : new.running ≡ old.running) where
-    own_entry : IsOf line enters.entry
-    own_entry = record { lane = enters.of_line.0; number = enters.of_line.1; command = enters.of_line.2 }
+  module _ (new : CoreState) (more : List Entry) (runs : RunsLine old new line more) where
+    told_run : (e : Entry) → Contains more e → TellsAfter old.history line.number e.reply
+    told_run e has = IfSome_then (told_boundary e.reply) (runs.told e has) (λ boundary least x there earlier.
+        (let up_to = served.up_to x there in omega (arith, up_to, least)))
 
-    above : (a : Entry) → Contains old.history a → a.id.0 < enters.entry.id.0
-    above a has = (let up_to = served.up_to a has in let id = enters.id.0 in omega (arith, up_to, id))
-
-    up_to_entered : (e : Entry) → Contains new.history e → e.id.0 ≤ new.last
-    up_to_entered e has = elim (Contains-append_cases old.history (enters.entry ∷ []) e (subst (λ (h : List Entry). Contains h e) enters.history has)) [
-      | inl before ↦ (let up_to = served.up_to e before in let id = enters.id.1 in omega (arith, up_to, id))
-      | inr here ↦ (let id = enters.id.0 in let last = enters.id.1 in
-          subst (λ (x : Entry). x.id.0 ≤ new.last) (only_one enters.entry e here) (omega (arith, id, last)))
-    ]
-
-    -- a boundary that it tells is at least the ids so far
-    tells : TellsAfter old.history line.number enters.entry.reply
-    tells = IfSome_then (told_boundary enters.entry.reply) enters.told (λ boundary bounds e has earlier.
-        (let up_to = served.up_to e has in let since = bounds.0 in omega (arith, up_to, since)))
-
-    has_entered : HasRun lines line begun old new (printed_line (entry_words enters.entry))
-    has_entered = record {
-      answers = rw enters.history
-          (answers_more lines old.history line later old.last enters.entry served.answers enters.left own_entry tells above new.last);
-      up_to = up_to_entered;
-      behind = λ was. record {
-        behind = λ some. enters.before;
-        idle = λ none. absurd (not_empty old.history enters.entry (sym enters.history ∙ none));
-      };
-      earlier = rw enters.history (out_before lines old.history line later old.last served.answers enters.entry own_entry alone.single);
-      own = rw enters.history (append-nil (line_text (old.history ++ enters.entry ∷ []) line)
-          ∙ text_answered lines old.history line later old.last served.answers enters.entry own_entry alone.single);
-      both = rw enters.history (out_answered lines old.history line later old.last served.answers enters.entry own_entry alone.single);
-      spare = (let least = enters.spare in let same = ap length open_is in omega (arith, least, same));
+    adds : AddsEntries old.history old.last new.last line more
+    adds = record {
+      entries = runs.entries;
+      spent = runs.spent;
+      told = each_from _ more told_run;
+      above = λ a b has also. (let up_to = served.up_to a has in let drawn = (runs.drawn b also).0 in omega (arith, up_to, drawn));
     }
 
-  has_spent : old.last ≡ GREATEST_ID → HasRun lines line begun old old (printed_line spent_words)
-  has_spent greatest = record {
-    answers = answers_spent lines old.history line later old.last greatest served.answers;
-    up_to = served.up_to;
-    behind = λ was. was;
-    earlier = refl;
-    own = append-nil (line_text old.history line) ∙ text_spent lines old.history line later old.last served.answers;
-    both = out_spent lines old.history line later old.last served.answers;
-    spare = omega arith;
-  }
+    up_to_run : (e : Entry) → Contains new.history e → e.id.0 ≤ new.last
+    up_to_run e has = elim (Contains-append_cases old.history more e (subst (λ (h : List Entry). Contains h e) runs.history has)) [
+      | inl before ↦ (let up_to = served.up_to e before in let later = runs.later in omega (arith, up_to, later))
+      | inr here ↦ (runs.drawn e here).1
+    ]
 
-  has_run : (new : CoreState) (text : List ℕ) → RunsLine old new line text → HasRun lines line begun old new text
-  has_run new text (inl entered) = rw entered.2 (has_entered new entered.0 entered.1)
-  has_run new text (inr spent) = rw (spent.1, spent.2) (has_spent spent.0)
+    -- not all of it is committed, where there is an entry
+    behind_run : IsUncommitted begun old → IsUncommitted begun new
+    behind_run was = record { behind = behind more refl; idle = idle more refl } where
+      behind : (es : List Entry) → more ≡ es → new.history ≢ [] → new.boundary < new.last
+      behind [] is some =
+          let same = runs.idle is in
+          subst (λ (c : CoreState). c.boundary < c.last) (sym same) (was.behind (subst (λ (c : CoreState). c.history ≢ []) same some))
+      behind (e ∷ es) is some = runs.behind (λ none. absurd (cc))
+
+      idle : (es : List Entry) → more ≡ es → new.history ≡ [] → new ≡ record begun { spare = new.spare }
+      idle [] is none =
+          let same = runs.idle is in
+          subst (λ (c : CoreState). c ≡ record begun { spare = c.spare }) (sym same) (was.idle (subst (λ (c : CoreState). c.history ≡ []) same none))
+      idle (e ∷ es) is none = absurd (not_empty old.history es e (ap (λ es. old.history ++ es) (sym is) ∙ sym runs.history ∙ none))
+
+    has_run : HasRun lines line begun old new (printed_line (words_of more))
+    has_run = record {
+      answers = rw runs.history (answers_more lines old.history line later old.last new.last more served.answers adds);
+      up_to = up_to_run;
+      behind = behind_run;
+      earlier = rw runs.history (out_before lines old.history line later alone.call old.last new.last more served.answers adds);
+      own = rw runs.history (append-nil (line_text (old.history ++ more) line)
+          ∙ text_added lines old.history line later alone.call old.last new.last more served.answers adds);
+      both = rw runs.history (out_added lines old.history line later alone.call old.last new.last more served.answers adds);
+      spare = runs.room;
+    }
 
   module _ (since : LeftSince) (new : CoreState) (follows : Follows mid since old new) (size : KeepsSize old new) where
     from : Follows past since begun new
@@ -125,8 +118,8 @@ module _ (lines : List Line) (line : Line) (later : (l : Line) → Contains line
 
     -- one more line was run and printed
     module _ (gained : Option (List ℕ)) (serves : ServesLine old new line holds gained) where
-      run : HasRun lines line begun old new serves.text
-      run = has_run new serves.text serves.runs
+      run : HasRun lines line begun old new (printed_line (words_of serves.more))
+      run = has_run new serves.more serves.runs
 
       Served-line : Served (lines ++ line ∷ []) past since begun new held gained
       Served-line = record {
@@ -134,10 +127,11 @@ module _ (lines : List Line) (line : Line) (later : (l : Line) → Contains line
         size = size ∙ served.size;
         answers = run.answers;
         up_to = run.up_to;
-        gained = rw run.both (Gains-append held holds gained (out_text lines old.history) serves.text served.gained serves.gained);
+        gained = rw run.both (Gains-append held holds gained (out_text lines old.history) (printed_line (words_of serves.more))
+            served.gained serves.gained);
       }
 
-      spare_left : old.spare ≤ new.spare + 1
+      spare_left : old.spare ≤ new.spare + 2
       spare_left = run.spare
 
       behind_left : IsUncommitted begun old → IsUncommitted begun new
@@ -148,8 +142,9 @@ module _ (lines : List Line) (line : Line) (later : (l : Line) → Contains line
         → first.faults ≤ second.faults → all ≡ lines ++ line ∷ rest → StoppedServing old new line second third stop
         → ServedInPart all past since begun new first third
     part_line all rest first second third stop began same earlier split stopped =
-        let run = has_run new stopped.text stopped.runs in
-        let part = stopped_front stopped.text second third stop stopped.printing in
+        let run = has_run new stopped.more stopped.runs in
+        let text = printed_line (words_of stopped.more) in
+        let part = stopped_front text second third stop stopped.printing in
         record {
           before = lines;
           last = line ∷ [];
@@ -161,7 +156,7 @@ module _ (lines : List Line) (line : Line) (later : (l : Line) → Contains line
           answers = run.answers;
           printed = part.0;
           gained = rw (run.earlier, run.own, began)
-              (Gains-append held holds third.told (out_text lines old.history) (take part.0 stopped.text) served.gained (rw same part.1));
+              (Gains-append held holds third.told (out_text lines old.history) (take part.0 text) served.gained (rw same part.1));
           cut = elim part.2 [
             | inl none ↦ inl none
             | inr rose ↦ inr (Rose-wider first.faults second.faults third.faults third.faults earlier rose (omega arith))
@@ -271,50 +266,3 @@ module _ (lines : List Line) (past since : LeftSince) (a b c : CoreState) (sound
     gained = part.gained;
     cut = part.cut;
   }
-
-module _ (old new : CoreState) (line : Line) where
-  -- a line was answered, and this is to be printed
-  runs_answered : (place : ℕ) (e : Entry) → AnswersLine old new line.lane line.number line.command (Some place)
-      → slice_get new.history place ≡ Some e → RunsLine old new line (printed_line (entry_words e))
-  runs_answered place e answers there = inl (
-    answers.1,
-    answers.2,
-    ap (λ (x : Entry). printed_line (entry_words x))
-        (entry_there old.history answers.1.entry e place answers.0
-        (subst (λ (h : List Entry). slice_get h place ≡ Some e) answers.1.history there)),
-  )
-
-  -- it found no id left
-  runs_spent : AnswersLine old new line.lane line.number line.command None → RunsLine old new line (printed_line spent_words)
-  runs_spent answers = inr (answers.0, answers.1, refl)
-
-  -- what is to be printed was printed or not
-  printed : (r : Result (Unit {0}) RunStop) (text : List ℕ) (held holds : Option (List ℕ)) → RunsLine old new line text → OnOk r (Gains held text holds)
-      → OnOk r (ServesLine old new line held holds)
-  printed (Ok done) text held holds runs gained = record { text = text; runs = runs; gained = gained }
-  printed (Err stop) text held holds runs gained = tt
-
-  stopped : (r : Result (Unit {0}) RunStop) (text : List ℕ) (held holds : Seen (List ℕ)) → RunsLine old new line text
-      → IfErr r (StoppedPrinting text held holds) → IfErr r (StoppedServing old new line held holds)
-  stopped (Ok done) text held holds runs printing = tt
-  stopped (Err stop) text held holds runs printing = record { text = text; runs = runs; printing = printing }
-
-  module _ (r : Result (Unit {0}) RunStop) where
-    module _ (place : ℕ) (e : Entry) (answers : AnswersLine old new line.lane line.number line.command (Some place))
-        (there : slice_get new.history place ≡ Some e) where
-      pub answered_printed : (held holds : Option (List ℕ)) → OnOk r (Gains held (printed_line (entry_words e)) holds)
-          → OnOk r (ServesLine old new line held holds)
-      answered_printed held holds gained = printed r (printed_line (entry_words e)) held holds (runs_answered place e answers there) gained
-
-      pub answered_stopped : (held holds : Seen (List ℕ)) → IfErr r (StoppedPrinting (printed_line (entry_words e)) held holds)
-          → IfErr r (StoppedServing old new line held holds)
-      answered_stopped held holds printing = stopped r (printed_line (entry_words e)) held holds (runs_answered place e answers there) printing
-
-    module _ (answers : AnswersLine old new line.lane line.number line.command None) where
-      pub spent_printed : (held holds : Option (List ℕ)) → OnOk r (Gains held (printed_line spent_words) holds)
-          → OnOk r (ServesLine old new line held holds)
-      spent_printed held holds gained = printed r (printed_line spent_words) held holds (runs_spent answers) gained
-
-      pub spent_stopped : (held holds : Seen (List ℕ)) → IfErr r (StoppedPrinting (printed_line spent_words) held holds)
-          → IfErr r (StoppedServing old new line held holds)
-      spent_stopped held holds printing = stopped r (printed_line spent_words) held holds (runs_spent answers) printing

@@ -1,17 +1,17 @@
 -- A core that waits for a flush, and is then entered.
-use Rattle.std.proofs.Common.{◌≡◌, ◌⊎◌, ℕ, ◌+◌, ◌<◌, Some, length, [], ◌∷◌, ◌++◌, refl, sym, ◌∙◌}
+use Rattle.std.proofs.Common.{◌≡◌, ◌⊎◌, ℕ, ◌+◌, ◌<◌, length, [], ◌∷◌, ◌++◌, sym, ◌∙◌}
 use Rattle.std.proofs.Common.{ap, subst, inl, inr, arith}
 use Rattle.hm_types.specs.declared.limits.TheConstants.{GREATEST_ID}
-use Rattle.hm_disk.specs.Moments.{LeftSince}
 use Rattle.hm_flush.specs.declared.flush.Flush.{Flush}
 use Rattle.hm_model.specs.declared.command.Command.{Command}
-use Rattle.hm_core.specs.Core.{Enters, Follows, KeepsStreams, Steps, Waits}
+use Rattle.hm_core.specs.Core.{EndsAtOnce, Enters, KeepsStreams, OpensJob, Steps, Waits}
 use Rattle.hm_core.specs.Staged.{MakesStage, Stages}
 use Rattle.hm_core.specs.declared.staged.Staged.TheVariants.{More, Refused}
-use Rattle.hm_core.specs.declared.step.Step.TheVariants.{Answered, MustFlush}
+use Rattle.hm_core.specs.declared.step.Step.TheVariants.{Answered, MustFlush, Opened as opened_step}
+use Rattle.hm_core.specs.declared.ticket.Ticket.{Ticket}
 use Rattle.hm_core.specs.State.{CoreDevices, CoreState}
-use Rattle.hm_core.proofs.CoreLemmas.{follows_further}
-use Rattle.hm_shell.specs.Serving.{AnswersLine, KeepsSize, Waited}
+use Rattle.hm_shell.specs.declared.serve.Called.TheVariants.{Closed, Opened}
+use Rattle.hm_shell.specs.Serving.{CallsLine, KeepsSize, Waited}
 use Rattle.hm_shell.proofs.FlushLemmas.{stages_fall, stages_left, waiting_open}
 
 -- two steps keep the streams where each does
@@ -40,12 +40,8 @@ waited_length : (a b : CoreState) → Waited a b → length b.history ≡ length
 waited_length a b (inl same) = ap (λ (x : CoreState). length x.history) same
 waited_length a b (inr waited) = ap length waited.0.history
 
-waited_running : (a b : CoreState) → Waited a b → b.running ≡ a.running
-waited_running a b (inl same) = ap (λ (x : CoreState). x.running) same
-waited_running a b (inr waited) = waited.0.running
-
 module _ (lane line since : ℕ) (command : Command) where
-  waits_enters : (a b c : CoreState) → Waits a b → Enters b c lane line since command → Enters a c lane line since command
+  pub waits_enters : (a b c : CoreState) → Waits a b → Enters b c lane line since command → Enters a c lane line since command
   waits_enters a b c waits enters =
       let same = waits.last in
       record {
@@ -60,28 +56,61 @@ module _ (lane line since : ℕ) (command : Command) where
             (let was = waits.spare in let open_is = ap length waits.running in let least = enters.spare in omega (arith, was, open_is, least));
       }
 
-  waited_enters : (a b c : CoreState) → Waited a b → Enters b c lane line since command → Enters a c lane line since command
-  waited_enters a b c (inl same) enters = subst (λ (x : CoreState). Enters x c lane line since command) same enters
-  waited_enters a b c (inr waited) enters = waits_enters a b c waited.0 enters
+  -- the same of a call that is at its end, and of the opening of a prune
+  waited_ends : (a b c : CoreState) → Waited a b → EndsAtOnce b c lane line since command → EndsAtOnce a c lane line since command
+  unfolding waits_enters
+  waited_ends a b c (inl same) ends = subst (λ (x : CoreState). EndsAtOnce x c lane line since command) same ends
+  waited_ends a b c (inr waited) ends = record {
+    enters = waits_enters a b c waited.0 ends.enters;
+    closed = ends.closed;
+    running = ends.running ∙ waited.0.running;
+  }
+
+  waited_opens : (opening : ℕ) (a b c : CoreState) → Waited a b → OpensJob b c lane line since command opening
+      → OpensJob a c lane line since command opening
+  unfolding waits_enters
+  waited_opens opening a b c (inl same) job = subst (λ (x : CoreState). OpensJob x c lane line since command opening) same job
+  waited_opens opening a b c (inr waited) job = record {
+    enters = waits_enters a b c waited.0 job.enters;
+    accepted = job.accepted;
+    prune = job.prune;
+    own = job.own;
+    named = job.named;
+    running = job.running ∙ ap (λ ps. ps ++ job.prune ∷ []) waited.0.running;
+    found = job.found;
+  }
 
 module _ (old mid : CoreState) (lane number since : ℕ) (command waiting : Command) (waited : Waited old mid) (since_is : since ≡ old.last)
     (command_is : waiting ≡ command) where
   -- the call was answered, after what it had waited for
-  enters_after : (new : CoreState) (place : ℕ) → place ≡ length mid.history → Enters mid new lane number since waiting
-      → new.running ≡ mid.running → AnswersLine old new lane number command (Some place)
-  enters_after new place there enters open_is = (
+  closed_after : (new : CoreState) (place : ℕ) → place ≡ length mid.history → EndsAtOnce mid new lane number since waiting
+      → CallsLine old new lane number command (Closed place)
+  closed_after new place there ends = (
     there ∙ waited_length old mid waited,
-    subst (λ (s : ℕ). Enters old new lane number s command) since_is
-        (subst (λ (c : Command). Enters old new lane number since c) command_is (waited_enters lane number since waiting old mid new waited enters)),
-    open_is ∙ waited_running old mid waited,
+    subst (λ (s : ℕ). EndsAtOnce old new lane number s command) since_is
+        (subst (λ (c : Command). EndsAtOnce old new lane number since c) command_is (waited_ends lane number since waiting old mid new waited ends)),
   )
 
   pub answered_after : (new : CoreState) (place : ℕ) → Steps mid new lane number since waiting (Answered place)
-      → AnswersLine old new lane number command (Some place)
-  answered_after new place steps = enters_after new place steps.0 steps.1 steps.3
+      → CallsLine old new lane number command (Closed place)
+  answered_after new place steps = closed_after new place steps.0 steps.1
 
   pub size_answered : (new : CoreState) (place : ℕ) → Steps mid new lane number since waiting (Answered place) → KeepsSize old mid → KeepsSize old new
   size_answered new place steps size = ap (λ (f : Flush). f.header.bigblocks) steps.2 ∙ size
+
+  -- it opened a prune
+  pub opened_after : (new : CoreState) (place : ℕ) (ticket : Ticket) → Steps mid new lane number since waiting (opened_step place ticket)
+      → CallsLine old new lane number command (Opened place ticket)
+  opened_after new place ticket steps = (
+    steps.0 ∙ waited_length old mid waited,
+    subst (λ (s : ℕ). OpensJob old new lane number s command ticket.opening.0) since_is
+        (subst (λ (c : Command). OpensJob old new lane number since c ticket.opening.0) command_is
+        (waited_opens lane number since waiting ticket.opening.0 old mid new waited steps.1)),
+  )
+
+  pub size_opened : (new : CoreState) (place : ℕ) (ticket : Ticket) → Steps mid new lane number since waiting (opened_step place ticket)
+      → KeepsSize old mid → KeepsSize old new
+  size_opened new place ticket steps size = ap (λ (f : Flush). f.header.bigblocks) steps.2 ∙ size
 
   -- it waits for a stage
   module _ (same new : CoreState) (back : Command) (must : Steps mid same lane number since waiting (MustFlush back)) where
@@ -89,14 +118,13 @@ module _ (old mid : CoreState) (lane number since : ℕ) (command waiting : Comm
     pub size_refused : (place : ℕ) → Stages same new lane number back (Refused place) → KeepsSize old mid → KeepsSize old new
     size_refused place stages size = stages.1.failed.volume ∙ ap (λ (x : CoreState). x.flush.header.bigblocks) must.1 ∙ size
 
-    pub refused_after : (place : ℕ) → Stages same new lane number back (Refused place) → AnswersLine old new lane number command (Some place)
+    pub refused_after : (place : ℕ) → Stages same new lane number back (Refused place) → CallsLine old new lane number command (Closed place)
     refused_after place stages =
-        let enters : Enters mid new lane number mid.last waiting =
-        subst (λ (c : Command). Enters mid new lane number mid.last c) must.0
-        (subst (λ (x : CoreState). Enters x new lane number x.last back) must.1 stages.1.enters) in
-        enters_after new place (stages.0 ∙ ap (λ (x : CoreState). length x.history) must.1)
-        (subst (λ (s : ℕ). Enters mid new lane number s waiting) (waited_last old mid waited ∙ sym since_is) enters)
-        (stages.1.running ∙ ap (λ (x : CoreState). x.running) must.1)
+        let ends : EndsAtOnce mid new lane number mid.last waiting =
+        subst (λ (c : Command). EndsAtOnce mid new lane number mid.last c) must.0
+        (subst (λ (x : CoreState). EndsAtOnce x new lane number x.last back) must.1 stages.1.ends) in
+        closed_after new place (stages.0 ∙ ap (λ (x : CoreState). length x.history) must.1)
+        (subst (λ (s : ℕ). EndsAtOnce mid new lane number s waiting) (waited_last old mid waited ∙ sym since_is) ends)
 
     -- or was made
     made : (again : Command) → Stages same new lane number back (More again) → MakesStage mid new

@@ -1,8 +1,10 @@
 -- What printing a line came to.
-use Rattle.std.specs.Prelude.{◌≡◌, ◌⊎◌, ℕ, List, [], ◌∷◌, ◌++◌, take}
+use Rattle.std.specs.Prelude.{◌≡◌, ◌⊎◌, ℕ, List, [], ◌∷◌, ◌++◌, codes, take}
 use Rattle.std.specs.Borrow.{Bor}
 use Rattle.hm_types.specs.Faults.{Rose}
 use Rattle.hm_pipe.specs.Pipe.{Gains}
+use Rattle.hm_model.specs.declared.entry.Entry.{Entry}
+use Rattle.hm_model.specs.Out.{entry_words, printed_line, spent_words}
 use Rattle.hm_shell.specs.declared.stop.RunStop.{RunStop}
 use Rattle.hm_shell.specs.declared.stop.RunStop.TheVariants.{Usage, NotVolume, BadField, DiskFault, Damaged, ScriptFault, OutFault, NoMemory, BadLine, TooLong}
 use Rattle.hm_shell.specs.Seen.{Seen}
@@ -11,6 +13,14 @@ use Rattle.hm_shell.specs.Seen.{Seen}
 abbrev pub joined : List (Bor (List ℕ)) → List ℕ
 joined [] = []
 joined (piece ∷ pieces) = piece.now ++ joined pieces
+
+-- the line of an opening and of its ending
+abbrev pub ended_line : Entry → Entry → List ℕ
+ended_line opening ending = printed_line (entry_words opening ++ (codes " " ++ entry_words ending))
+
+-- the line of an opening, for whose ending no id was left
+abbrev pub unended_line : Entry → List ℕ
+unended_line opening = printed_line (entry_words opening ++ (codes " " ++ spent_words))
 
 -- the sink failed, and gained only a front of this text
 abbrev pub IsCutShort : List ℕ → Seen (List ℕ) → Seen (List ℕ) → Type 0

@@ -1,21 +1,26 @@
 -- The lines of a script, served from the front on an open volume, and what comes of it.
-use Rattle.std.specs.Prelude.{◌≡◌, ◌≢◌, ◌⊎◌, ℕ, ◌*◌, ◌<◌, ◌≤◌, List, [], ◌++◌, Option, None, Some, Contains, IfSome, length, take}
+use Rattle.std.specs.Prelude.{◌≡◌, ◌≢◌, ◌⊎◌, ℕ, ◌+◌, ◌*◌, ◌<◌, ◌≤◌, List, [], ◌++◌, Option, None, Some, Contains, IfSome, length, take}
 use Rattle.hm_types.specs.Faults.{Rose}
 use Rattle.hm_types.specs.declared.limits.TheConstants.{GREATEST_ID}
 use Rattle.hm_disk.specs.Crash.{Told}
 use Rattle.hm_disk.specs.Moments.{LeftSince}
 use Rattle.hm_pipe.specs.Pipe.{Gains}
 use Rattle.hm_model.specs.declared.command.Command.{Command}
+use Rattle.hm_model.specs.declared.command.Command.TheVariants.{End}
 use Rattle.hm_model.specs.declared.entry.Entry.{Entry}
 use Rattle.hm_model.specs.declared.line.Line.{Line}
-use Rattle.hm_model.specs.Out.{entry_words, printed_line, spent_words}
-use Rattle.hm_core.specs.Core.{Enters, Follows, IsCausedRun, Waits}
+use Rattle.hm_model.specs.Out.{printed_line}
+use Rattle.hm_model.specs.Reply.{told_boundary}
+use Rattle.hm_core.specs.Core.{EndsAtOnce, Enters, Follows, IsCausedRun, OpensJob, Waits}
 use Rattle.hm_core.specs.Counts.{with_disk}
 use Rattle.hm_core.specs.Finished.{IsCommittedOn}
+use Rattle.hm_core.specs.Jobs.{Closes}
 use Rattle.hm_core.specs.Staged.{IsFlushed}
-use Rattle.hm_core.specs.State.{CoreState}
+use Rattle.hm_core.specs.State.{CoreState, OpenPrune, prune_with}
+use Rattle.hm_shell.specs.declared.serve.Called.{Called}
+use Rattle.hm_shell.specs.declared.serve.Called.TheVariants.{Closed, Opened, Spent}
 use Rattle.hm_shell.specs.declared.stop.RunStop.{RunStop}
-use Rattle.hm_shell.specs.Alone.{AnswersEach, out_text}
+use Rattle.hm_shell.specs.Alone.{AnswersEach, AreEntriesOf, out_text, words_of}
 use Rattle.hm_shell.specs.Printing.{StoppedPrinting}
 use Rattle.hm_shell.specs.Running.{IsOutCause, IsWriteCause}
 use Rattle.hm_shell.specs.Seen.{Seen}
@@ -64,31 +69,51 @@ pub record ServedInPart (lines : List Line) (past since : LeftSince) (begun core
 abbrev pub Waited : CoreState → CoreState → Type 0
 Waited old new = (new ≡ old) ⊎ (Waits old new × (old.last < GREATEST_ID))
 
--- A call was answered, after the stages for which it waited: its entry stands at this place of the history, and it stays no longer open.
--- Or no id was left.
-abbrev pub AnswersLine : CoreState → CoreState → ℕ → ℕ → Command → Option ℕ → Type 0
-AnswersLine old new lane number command (Some place) =
-    (place ≡ length old.history) × Enters old new lane number old.last command × (new.running ≡ old.running)
-AnswersLine old new lane number command None = (old.last ≡ GREATEST_ID) × (new ≡ old)
+-- A call was answered, after the stages for which it waited: its entry stands at this place of the history, and it is at its end, or it opened
+-- a prune. Or no id was left.
+abbrev pub CallsLine : CoreState → CoreState → ℕ → ℕ → Command → Called → Type 0
+CallsLine old new lane number command (Closed place) =
+    (place ≡ length old.history) × EndsAtOnce old new lane number old.last command
+CallsLine old new lane number command (Opened place ticket) =
+    (place ≡ length old.history) × OpensJob old new lane number old.last command ticket.opening.0
+CallsLine old new lane number command Spent = (old.last ≡ GREATEST_ID) × (new ≡ old)
 
--- a line was run, and this is to be printed: its call was entered, or no id was left and all is as before
-abbrev pub RunsLine : CoreState → CoreState → Line → List ℕ → Type 0
-RunsLine old new line text =
-    ((enters : Enters old new line.lane line.number old.last line.command) × (new.running ≡ old.running)
-    × (text ≡ printed_line (entry_words enters.entry)))
-    ⊎ ((old.last ≡ GREATEST_ID) × (new ≡ old) × (text ≡ printed_line spent_words))
+-- An open prune came to its end: its ending was entered, with the lane and the line of its opening.
+pub record EntersEnding (opening : ℕ) (old new : CoreState) : Type 0 where
+  pub prune : OpenPrune
+  pub found : prune_with opening old.running ≡ Some prune
+  pub enters : Enters old new prune.lane prune.line old.last (End (record { 0 = opening }))
+  pub closes : Closes opening old new
+
+-- its ending stands at this place of the history, or no id was left for it
+abbrev pub EndsOrLacks : ℕ → CoreState → CoreState → Option ℕ → Type 0
+EndsOrLacks opening old new (Some place) = (place ≡ length old.history) × EntersEnding opening old new
+EndsOrLacks opening old new None = (old.last ≡ GREATEST_ID) × (new ≡ old)
+
+-- A line was run, and these entries were added: those of the line, by the ids after the last one. A boundary that one tells is at least that,
+-- and not all of them are committed; and where there are none, all is as before. At most two places of the room are taken.
+pub record RunsLine (old new : CoreState) (line : Line) (more : List Entry) : Type 0 where
+  pub history : new.history ≡ old.history ++ more
+  pub entries : AreEntriesOf (new.last ≡ GREATEST_ID) line more
+  pub spent : old.last ≡ GREATEST_ID → more ≡ []
+  pub drawn : (e : Entry) → Contains more e → (old.last < e.id.0) × (e.id.0 ≤ new.last)
+  pub told : (e : Entry) → Contains more e → IfSome (told_boundary e.reply) (λ boundary. old.last ≤ boundary.0)
+  pub behind : more ≢ [] → new.boundary < new.last
+  pub idle : more ≡ [] → new ≡ old
+  pub later : old.last ≤ new.last
+  pub room : old.spare ≤ new.spare + 2
 
 -- a line was run and printed
 pub record ServesLine (old new : CoreState) (line : Line) (held holds : Option (List ℕ)) : Type 0 where
-  pub text : List ℕ
-  pub runs : RunsLine old new line text
-  pub gained : Gains held text holds
+  pub more : List Entry
+  pub runs : RunsLine old new line more
+  pub gained : Gains held (printed_line (words_of more)) holds
 
 -- a line was run, and could not be printed
 pub record StoppedServing (old new : CoreState) (line : Line) (old_out new_out : Seen (List ℕ)) (stop : RunStop) : Type 0 where
-  pub text : List ℕ
-  pub runs : RunsLine old new line text
-  pub printing : StoppedPrinting text old_out new_out stop
+  pub more : List Entry
+  pub runs : RunsLine old new line more
+  pub printing : StoppedPrinting (printed_line (words_of more)) old_out new_out stop
 
 -- The stages of the last flush were made: all is committed, and the disk stands for the volume. Where a stage was made, since not
 -- all was committed before, nothing is unsettled.

@@ -1,10 +1,10 @@
 // What follows from the definitions alone: a function that states a law, and does nothing.
 ghost use Rattle.std.specs.Prelude.{◌≡◌, ◌<◌, ◌∷◌, ◌++◌, [], ℕ, All, Contains, List, Option};
 ghost use Rattle.hm_types.specs.declared.limits.TheConstants.{GREATEST_ID};
-ghost use Rattle.hm_model.specs.Out.{IsOf, IsOut};
+ghost use Rattle.hm_model.specs.Out.{IsOut};
 ghost use Rattle.hm_model.specs.declared.entry.Entry.{Entry};
 ghost use Rattle.hm_model.specs.declared.line.Line.{Line};
-ghost use Rattle.hm_shell.specs.Alone.{AnswersEach, IsAlone, TellsAfter, alone, out_text};
+ghost use Rattle.hm_shell.specs.Alone.{AddsEntries, AnswersEach, IsAlone, alone, out_text};
 ghost use Rattle.hm_shell.specs.Words.{IsPlan};
 
 /// Words have one plan only.
@@ -14,21 +14,18 @@ pub fn plans_are_one()
         (volume ≡ other) × (newfs ≡ another) }
 {}
 
-/// Lines without lanes, each of one call, that a history answers one after another print what a run
-/// with this history prints.
+/// Lines without lanes, each of a call, that a history answers one after another print what a run with
+/// this history prints.
 pub fn lines_by_themselves_print_a_run()
     ensures { (end : ℕ) (history : List Entry) (lines : List Line) → All IsAlone lines →
         AnswersEach end lines history → IsOut (alone lines) history end (out_text lines history) }
 {}
 
-/// Where a history answers lines, and an id is left, it answers one line more with one entry more: that
-/// of the line, with an id above all others, and no boundary below them.
+/// A history that answers lines answers one line more with the entries of that one more.
 pub fn one_line_more_is_answered()
-    ensures { (lines : List Line) (history : List Entry) (line : Line) (end next : ℕ) (e : Entry) →
+    ensures { (lines : List Line) (history more : List Entry) (line : Line) (end next : ℕ) →
         ((l : Line) → Contains lines l → l.number < line.number) → AnswersEach end lines history →
-        end < GREATEST_ID → IsOf line e → TellsAfter history line.number e.reply →
-        ((a : Entry) → Contains history a → a.id.0 < e.id.0) →
-        AnswersEach next (lines ++ line ∷ []) (history ++ e ∷ []) }
+        AddsEntries history end next line more → AnswersEach next (lines ++ line ∷ []) (history ++ more) }
 {}
 
 /// Where no id is left, a history that answers lines answers one line more as it is.

@@ -4,7 +4,7 @@ ghost use Rattle.hm_pipe.specs.Pipe.{Gains};
 ghost use Rattle.hm_model.specs.Lines.{line_feed};
 ghost use Rattle.hm_model.specs.Out.{entry_words, printed_line, spent_words};
 ghost use Rattle.hm_shell.specs.Stop.{counts_line, damage_line, last_line};
-ghost use Rattle.hm_shell.specs.Printing.{Prints, IsCutShort, StoppedPrinting, joined};
+ghost use Rattle.hm_shell.specs.Printing.{Prints, IsCutShort, StoppedPrinting, ended_line, joined, unended_line};
 ghost use Rattle.hm_shell.specs.Seen.{seen};
 
 use crate::digits::hex_digits;
@@ -25,6 +25,37 @@ pub(crate) fn print_entry<K: Sink>(alloc: Global, entry: &Entry, out: &mut K) ->
     ensures never_falls { K.faults out.old ≤ K.faults out.new }
 {
     let line = entry_line(alloc, entry)?;
+    put_line(&line, out)
+}
+
+/// Prints the line of an opening and of its ending, in one piece.
+pub(crate) fn print_ended<K: Sink>(
+    alloc: Global,
+    opening: &Entry,
+    ending: &Entry,
+    out: &mut K,
+) -> Result<(), RunStop>
+    ensures ok { OnOk result (Gains (K.held out.old) (ended_line opening.now ending.now) (K.held out.new)) }
+    ensures err { IfErr result (StoppedPrinting (ended_line opening.now ending.now)
+        (seen K.held K.faults out.old) (seen K.held K.faults out.new)) }
+    ensures never_falls { K.faults out.old ≤ K.faults out.new }
+{
+    let line = line_with_ending(alloc, opening, ending)?;
+    put_line(&line, out)
+}
+
+/// Prints the line of an opening, for whose ending no id was left.
+pub(crate) fn print_unended<K: Sink>(
+    alloc: Global,
+    opening: &Entry,
+    out: &mut K,
+) -> Result<(), RunStop>
+    ensures ok { OnOk result (Gains (K.held out.old) (unended_line opening.now) (K.held out.new)) }
+    ensures err { IfErr result (StoppedPrinting (unended_line opening.now)
+        (seen K.held K.faults out.old) (seen K.held K.faults out.new)) }
+    ensures never_falls { K.faults out.old ≤ K.faults out.new }
+{
+    let line = line_without_ending(alloc, opening)?;
     put_line(&line, out)
 }
 
@@ -54,12 +85,39 @@ fn put_line<K: Sink>(line: &[u8], out: &mut K) -> Result<(), RunStop>
 fn entry_line(alloc: Global, entry: &Entry) -> Result<Vec<u8>, NoMemory>
     ensures { IfOk result (λ line. line.items ≡ printed_line (entry_words entry.now)) }
 {
-    let id = entry.id;
     let mut line = Vec::new(alloc);
-    line.extend_from_slice(format!(in alloc; "{id} ")?.as_bytes())?;
-    push_answer(alloc, &mut line, &entry.call, &entry.reply)?;
+    push_entry(alloc, &mut line, entry)?;
     line.push(b'\n')?;
     Ok(line)
+}
+
+fn line_with_ending(alloc: Global, opening: &Entry, ending: &Entry) -> Result<Vec<u8>, NoMemory>
+    ensures { IfOk result (λ line. line.items ≡ ended_line opening.now ending.now) }
+{
+    let mut line = Vec::new(alloc);
+    push_entry(alloc, &mut line, opening)?;
+    line.push(b' ')?;
+    push_entry(alloc, &mut line, ending)?;
+    line.push(b'\n')?;
+    Ok(line)
+}
+
+fn line_without_ending(alloc: Global, opening: &Entry) -> Result<Vec<u8>, NoMemory>
+    ensures { IfOk result (λ line. line.items ≡ unended_line opening.now) }
+{
+    let mut line = Vec::new(alloc);
+    push_entry(alloc, &mut line, opening)?;
+    line.extend_from_slice(b" - ids spent\n")?;
+    Ok(line)
+}
+
+// Adds the id of an entry and its reply to a line.
+fn push_entry(alloc: Global, line: &mut Vec<u8>, entry: &Entry) -> Result<(), NoMemory>
+    ensures { OnOk result (line.new.items ≡ line.old.items ++ entry_words entry.now) }
+{
+    let id = entry.id;
+    line.extend_from_slice(format!(in alloc; "{id} ")?.as_bytes())?;
+    push_answer(alloc, line, &entry.call, &entry.reply)
 }
 
 /// Prints the last line of a run that stops, if it has one. It takes no memory, and a fault of the

@@ -25,7 +25,8 @@ use std::thread::Threads;
 /// line is run, and commits what is left in a last flush.
 ///
 /// A flush is made in stages. One is due before a line is answered where the changed pages fill a group,
-/// and for a sync until all that was answered before it is committed.
+/// and for a sync until all that was answered before it is committed. A prune that a line opened is
+/// brought to its end, unit by unit, before the next line is run; the run waits as long as that takes.
 ///
 /// It ends with status 0 once each line was answered and the volume is on the disk. Else it ends
 /// at the first of these that it meets: words that break the rule (2), a fault of the script's
@@ -71,7 +72,7 @@ pub fn run<
         × (result.devices.stream_out ≡ devices.stream_out) }
     ensures counts { NeverFall (sight devices) (sight result.devices) }
 {
-    let (mut devices, outcome) = perform(rt.alloc(), words, devices);
+    let (mut devices, outcome) = perform(rt, rt.alloc(), words, devices);
     let bad_line = bad_line_of(&outcome);
     let status = end(outcome, &mut devices.out);
     Ended {
@@ -82,7 +83,8 @@ pub fn run<
 }
 
 // Runs up to the last line that is due where the run stops early.
-fn perform<D: Disk, S: Source, K: Sink, I, O>(
+fn perform<W: Wait, D: Disk, S: Source, K: Sink, I, O>(
+    rt: &W,
     alloc: Global,
     words: &[String],
     devices: Devices<D, S, K, I, O>,
@@ -103,7 +105,7 @@ fn perform<D: Disk, S: Source, K: Sink, I, O>(
         stream_out,
     } = devices;
     let closed = match prepare(alloc, words, &mut script) {
-        Ok(job) => run_job(alloc, job, disk, stream_in, stream_out, &mut out),
+        Ok(job) => run_job(rt, alloc, job, disk, stream_in, stream_out, &mut out),
         Err(stop) => Closed {
             disk,
             stream_in,

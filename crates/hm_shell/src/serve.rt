@@ -2,24 +2,40 @@
 ghost use Rattle.std.specs.Prelude.{◌≡◌, ◌*◌, ◌≤◌, [], IfErr, OnErr, OnOk, All, length};
 ghost use Rattle.hm_types.specs.declared.limits.TheConstants.{MOST_SCRIPT_LINES};
 ghost use Rattle.hm_core.specs.Core.{Follows, KeepsStreams};
+ghost use Rattle.hm_core.specs.Jobs.{IsOpen};
 ghost use Rattle.hm_core.specs.Seen.{devices as devices_of, seen as seen_core};
 ghost use Rattle.hm_core.specs.Served.{IsAsked};
 ghost use Rattle.hm_shell.specs.Lines.{NumbersRise, IsServedLine};
 ghost use Rattle.hm_shell.specs.Running.{IsOutCause};
 ghost use Rattle.hm_shell.specs.Seen.{seen};
-ghost use Rattle.hm_shell.specs.Serving.{AnswersLine, IsUncommitted, KeepsSize, Served, ServedInPart, ServesLine, StoppedServing};
+ghost use Rattle.hm_shell.specs.Serving.{CallsLine, EndsOrLacks, IsUncommitted, KeepsSize};
+ghost use Rattle.hm_shell.specs.Serving.{Served, ServedInPart, ServesLine, StoppedServing};
 
-use crate::print::{print_entry, print_spent};
+use crate::print::{print_ended, print_entry, print_spent, print_unended};
 use crate::stop::RunStop;
-use hm_core::{Core, Staged, Step};
+use hm_core::{Core, Staged, Step, Ticket, UnitEnd};
 use hm_disk::Disk;
 use hm_model::{Command, Line};
 use hm_pipe::Sink;
+use hm_types::GREATEST_ID;
 use std::alloc::Global;
+use std::sync::Wait;
+
+/// What calling a line came to.
+#[derive(Drop)]
+enum Called {
+    /// It was answered, and opened nothing. Its entry stands at this place of the history.
+    Closed(usize),
+    /// It is the opening of a prune that was accepted, with its entry at this place of the history.
+    Opened(usize, Ticket),
+    /// No id was left for it.
+    Spent,
+}
 
 /// Makes room for two entries a line, and then runs the lines in their order. Each reply is printed
 /// before the next line is run.
-pub(crate) fn serve_script<D: Disk, I, O, K: Sink>(
+pub(crate) fn serve_script<W: Wait, D: Disk, I, O, K: Sink>(
+    rt: &W,
     alloc: Global,
     core: &mut Core<D, I, O>,
     lines: Vec<Line>,
@@ -42,10 +58,11 @@ pub(crate) fn serve_script<D: Disk, I, O, K: Sink>(
 {
     core.core_is_sound();
     core.reserve(2 * lines.len() as u32)?;
-    serve_lines(alloc, core, lines, out)
+    serve_lines(rt, alloc, core, lines, out)
 }
 
-fn serve_lines<D: Disk, I, O, K: Sink>(
+fn serve_lines<W: Wait, D: Disk, I, O, K: Sink>(
+    rt: &W,
     alloc: Global,
     core: &mut Core<D, I, O>,
     lines: Vec<Line>,
@@ -68,13 +85,14 @@ fn serve_lines<D: Disk, I, O, K: Sink>(
 {
     core.core_is_sound();
     for line in lines {
-        serve_line(alloc, core, line, out)?;
+        serve_line(rt, alloc, core, line, out)?;
     }
     Ok(())
 }
 
-// Runs one line, and prints its reply.
-fn serve_line<D: Disk, I, O, K: Sink>(
+// Runs one line, and prints its reply; of a prune that it opened, once that has ended, with the ending.
+fn serve_line<W: Wait, D: Disk, I, O, K: Sink>(
+    rt: &W,
     alloc: Global,
     core: &mut Core<D, I, O>,
     line: Line,
@@ -97,23 +115,26 @@ fn serve_line<D: Disk, I, O, K: Sink>(
         number,
         command,
     } = line;
-    match answer_line(core, lane, number, command) {
-        Some(place) => print_entry(alloc, core.entry(place), out),
-        None => print_spent(out),
+    match call_line(core, lane, number, command) {
+        Called::Closed(place) => print_entry(alloc, core.entry(place), out),
+        Called::Opened(opening, ticket) => match end_prune(rt, core, ticket) {
+            Some(ending) => print_ended(alloc, core.entry(opening), core.entry(ending), out),
+            None => print_unended(alloc, core.entry(opening), out),
+        },
+        Called::Spent => print_spent(out),
     }
 }
 
-// Calls until the call is answered, and makes a stage of a flush each time that it waits for one. Tells
-// where its entry stands, unless no id was left.
-fn answer_line<D: Disk, I, O>(
+// Calls until the call is answered, and makes a stage of a flush each time that it waits for one.
+fn call_line<D: Disk, I, O>(
     core: &mut Core<D, I, O>,
     lane: u8,
     number: u32,
     command: Command,
-) -> Option<usize>
+) -> Called
     requires asked { IsAsked command }
     requires room { 2 ≤ (seen_core core.old).spare }
-    ensures answers { AnswersLine (seen_core core.old) (seen_core core.new) lane number command result }
+    ensures calls { CallsLine (seen_core core.old) (seen_core core.new) lane number command result }
     ensures follows { Follows (D.left_since (devices_of core.old).disk)
         (D.left_since (devices_of core.new).disk) (seen_core core.old) (seen_core core.new) }
     ensures size { KeepsSize (seen_core core.old) (seen_core core.new) }
@@ -124,13 +145,43 @@ fn answer_line<D: Disk, I, O>(
     let mut waiting = command;
     'waiting: loop {
         match core.call(lane, number, since, waiting) {
-            Step::Answered(place) => return Some(place),
+            Step::Answered(place) => return Called::Closed(place),
+            Step::Opened(place, ticket) => return Called::Opened(place, ticket),
             Step::MustFlush(back) => match core.flush_stage(lane, number, back) {
                 Staged::More(back) => waiting = back,
-                Staged::Refused(place) => return Some(place),
-                Staged::Spent => return None,
+                Staged::Refused(place) => return Called::Closed(place),
+                Staged::Spent => return Called::Spent,
             },
-            Step::Spent => return None,
+            Step::Spent => return Called::Spent,
         }
     }
+}
+
+// Does the units of an open prune until its ending stands, and tells where. Where no id is left for an
+// ending, none is done.
+fn end_prune<W: Wait, D: Disk, I, O>(
+    rt: &W,
+    core: &mut Core<D, I, O>,
+    ticket: Ticket,
+) -> Option<usize>
+    requires open { IsOpen ticket.opening.0 (seen_core core.old) }
+    ensures ends { EndsOrLacks ticket.opening.0 (seen_core core.old) (seen_core core.new) result }
+    ensures follows { Follows (D.left_since (devices_of core.old).disk)
+        (D.left_since (devices_of core.new).disk) (seen_core core.old) (seen_core core.new) }
+    ensures size { KeepsSize (seen_core core.old) (seen_core core.new) }
+    ensures streams { KeepsStreams (devices_of core.old) (devices_of core.new) }
+{
+    core.core_is_sound();
+    if core.last().0 == GREATEST_ID {
+        return None;
+    }
+    let mut ticket = ticket;
+    for _ in rt.forever() {
+        match core.job_unit(ticket) {
+            UnitEnd::More(back) => ticket = back,
+            UnitEnd::Ended(place) => return Some(place),
+            UnitEnd::Spent => unreachable!(),
+        }
+    }
+    unreachable!()
 }

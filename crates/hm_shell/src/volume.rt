@@ -22,6 +22,7 @@ use hm_disk::Disk;
 use hm_model::Line;
 use hm_pipe::Sink;
 use std::alloc::Global;
+use std::sync::Wait;
 
 /// What a volume was used with, handed back, and what came of it.
 #[derive(Drop)]
@@ -34,7 +35,8 @@ pub(crate) struct Closed<D, I, O> {
 
 /// Makes a volume where that is asked for, opens the volume of the disk, runs the script's lines,
 /// and commits what is left. All reads and writes of the run go through one buffer.
-pub(crate) fn run_job<D: Disk, I, O, K: Sink>(
+pub(crate) fn run_job<W: Wait, D: Disk, I, O, K: Sink>(
+    rt: &W,
     alloc: Global,
     job: Job,
     disk: D,
@@ -58,7 +60,7 @@ pub(crate) fn run_job<D: Disk, I, O, K: Sink>(
         stream_in,
         stream_out,
         outcome,
-    } = run_on(alloc, job, disk, stream_in, stream_out, out);
+    } = run_on(rt, alloc, job, disk, stream_in, stream_out, out);
     Closed {
         disk: disk.into_inner(),
         stream_in,
@@ -68,7 +70,8 @@ pub(crate) fn run_job<D: Disk, I, O, K: Sink>(
 }
 
 // The same on this disk itself.
-fn run_on<D: Disk, I, O, K: Sink>(
+fn run_on<W: Wait, D: Disk, I, O, K: Sink>(
+    rt: &W,
     alloc: Global,
     job: Job,
     disk: D,
@@ -97,7 +100,7 @@ fn run_on<D: Disk, I, O, K: Sink>(
         };
     }
     match Core::mount(alloc, disk, stream_in, stream_out) {
-        Ok(core) => run_lines(alloc, core, lines, out),
+        Ok(core) => run_lines(rt, alloc, core, lines, out),
         Err((disk, stream_in, stream_out, fault)) => Closed {
             disk,
             stream_in,
@@ -126,7 +129,8 @@ fn make_volume<D: Disk>(disk: &mut D, bigblocks: Option<u32>) -> Result<(), RunS
 }
 
 // Runs the lines on an open volume, and closes it.
-fn run_lines<D: Disk, I, O, K: Sink>(
+fn run_lines<W: Wait, D: Disk, I, O, K: Sink>(
+    rt: &W,
     alloc: Global,
     core: Core<D, I, O>,
     lines: Vec<Line>,
@@ -149,7 +153,7 @@ fn run_lines<D: Disk, I, O, K: Sink>(
         × (K.faults out.old ≤ K.faults out.new) }
 {
     let mut core = core;
-    let outcome = use_core(alloc, &mut core, lines, out);
+    let outcome = use_core(rt, alloc, &mut core, lines, out);
     let (disk, stream_in, stream_out) = core.into_devices();
     Closed {
         disk,
@@ -160,7 +164,8 @@ fn run_lines<D: Disk, I, O, K: Sink>(
 }
 
 // Runs the lines, and commits all where each of them was run.
-fn use_core<D: Disk, I, O, K: Sink>(
+fn use_core<W: Wait, D: Disk, I, O, K: Sink>(
+    rt: &W,
     alloc: Global,
     core: &mut Core<D, I, O>,
     lines: Vec<Line>,
@@ -182,7 +187,7 @@ fn use_core<D: Disk, I, O, K: Sink>(
     ensures counts { ((seen_core core.old).counts.disk ≤ (seen_core core.new).counts.disk)
         × (K.faults out.old ≤ K.faults out.new) }
 {
-    match serve_script(alloc, core, lines, out) {
+    match serve_script(rt, alloc, core, lines, out) {
         Ok(()) => commit_all(core),
         Err(stop) => Err(stop),
     }

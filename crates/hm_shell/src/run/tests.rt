@@ -11,6 +11,7 @@ mod failing;
 mod faults;
 mod files;
 mod gate;
+mod prunes;
 mod syncs;
 
 type Memory = Ended<MemDisk, MemSource, MemSink, MemSource, MemSink>;

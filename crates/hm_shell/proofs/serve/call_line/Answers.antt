@@ -1,9 +1,9 @@
 use Rattle.std.proofs.Common.{inl, refl}
 use Rattle.hm_core.specs.Seen.{seen as seen_core}
 use Rattle.hm_core.proofs.CoreLemmas.{follows_further, follows_itself}
-use Rattle.hm_shell.proofs.WaitLemmas.{again_is, answered_after, falls_after, refused_after, size_after, size_answered, size_refused}
-use Rattle.hm_shell.proofs.WaitLemmas.{streams_more, waited_after}
-use Rattle.hm_shell.proofs.serve.answer_line.Goals as goal
+use Rattle.hm_shell.proofs.WaitLemmas.{again_is, answered_after, falls_after, opened_after, refused_after}
+use Rattle.hm_shell.proofs.WaitLemmas.{size_after, size_answered, size_opened, size_refused, streams_more, waited_after}
+use Rattle.hm_shell.proofs.serve.call_line.Goals as goal
 
 pub waiting-init : goal.waiting-init
 waiting-init g c = record {
@@ -20,6 +20,11 @@ returns-in-Answered-clause-follows g c =
     follows_further _ _ _ (seen_core c.args.core.now) (seen_core c.waiting.core) (seen_core c.call.new.self) c.waiting.invariant.follows
     c.call.ensures.follows
 
+pub returns-in-Opened-clause-follows : goal.returns-in-Opened-clause-follows
+returns-in-Opened-clause-follows g c =
+    follows_further _ _ _ (seen_core c.args.core.now) (seen_core c.waiting.core) (seen_core c.call.new.self) c.waiting.invariant.follows
+    c.call.ensures.follows
+
 pub returns-in-Refused-clause-follows : goal.returns-in-Refused-clause-follows
 returns-in-Refused-clause-follows g c =
     let old = seen_core c.args.core.now in
@@ -27,14 +32,26 @@ returns-in-Refused-clause-follows g c =
     follows_further _ _ _ old same (seen_core c.flush_stage.new.self)
     (follows_further _ _ _ old (seen_core c.waiting.core) same c.waiting.invariant.follows c.call.ensures.follows) c.flush_stage.ensures.follows
 
-pub returns-in-Answered-clause-answers : goal.returns-in-Answered-clause-answers
-returns-in-Answered-clause-answers g c =
+pub returns-in-Answered-clause-calls : goal.returns-in-Answered-clause-calls
+returns-in-Answered-clause-calls g c =
     answered_after (seen_core c.args.core.now) (seen_core c.waiting.core) c.args.lane c.args.number c.last-since.result.0 c.args.command
     c.waiting.waiting c.waiting.invariant.waited c.waiting.invariant.since_is c.waiting.invariant.command_is (seen_core c.call.new.self)
     c.in-Answered.place c.in-Answered.ensures.steps
 
-pub returns-in-Refused-clause-answers : goal.returns-in-Refused-clause-answers
-returns-in-Refused-clause-answers g c =
+pub returns-in-Opened-clause-calls : goal.returns-in-Opened-clause-calls
+returns-in-Opened-clause-calls g c =
+    opened_after (seen_core c.args.core.now) (seen_core c.waiting.core) c.args.lane c.args.number c.last-since.result.0 c.args.command
+    c.waiting.waiting c.waiting.invariant.waited c.waiting.invariant.since_is c.waiting.invariant.command_is (seen_core c.call.new.self)
+    c.in-Opened.place c.in-Opened.ticket c.in-Opened.ensures.steps
+
+pub returns-in-Opened-clause-size : goal.returns-in-Opened-clause-size
+returns-in-Opened-clause-size g c =
+    size_opened (seen_core c.args.core.now) (seen_core c.waiting.core) c.args.lane c.args.number c.last-since.result.0 c.args.command
+    c.waiting.waiting c.waiting.invariant.waited c.waiting.invariant.since_is c.waiting.invariant.command_is (seen_core c.call.new.self)
+    c.in-Opened.place c.in-Opened.ticket c.in-Opened.ensures.steps c.waiting.invariant.size
+
+pub returns-in-Refused-clause-calls : goal.returns-in-Refused-clause-calls
+returns-in-Refused-clause-calls g c =
     refused_after (seen_core c.args.core.now) (seen_core c.waiting.core) c.args.lane c.args.number c.last-since.result.0 c.args.command
     c.waiting.waiting c.waiting.invariant.waited c.waiting.invariant.since_is c.waiting.invariant.command_is (seen_core c.call.new.self)
     (seen_core c.flush_stage.new.self) c.in-MustFlush.back c.in-MustFlush.ensures.steps c.in-Refused.place c.in-Refused.ensures.stages

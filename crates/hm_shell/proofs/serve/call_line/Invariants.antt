@@ -3,7 +3,7 @@ use Rattle.hm_core.specs.Core.{Follows, KeepsStreams}
 use Rattle.hm_core.specs.Seen.{devices as devices_of, seen as seen_core}
 use Rattle.hm_shell.specs.Serving.{KeepsSize, Waited}
 use Rattle.hm_shell.proofs.FlushLemmas.{stages_left}
-use Rattle.hm_shell.proofs.serve.answer_line.Given as goal
+use Rattle.hm_shell.proofs.serve.call_line.Given as goal
 
 abbrev pub invariant-waiting : goal.invariant-waiting
 invariant-waiting g l = record {
