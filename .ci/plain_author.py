@@ -11,8 +11,8 @@ NEXT_RUN = '# next run'  # a line between two runs over one volume
 LINES = 300  # of a script, at the least
 LOOKS = 60  # at the past, when all is done
 # A script whose seed has this rest by 6 begins with a volume that is nearly full, has a few files whose
-# bytes change much, or begins with many names.
-FULL, BYTES, WIDE = 0, 1, 3
+# bytes change much, has many snapshots, prunes and pseudo file systems, or begins with many names.
+FULL, BYTES, KEPT, WIDE = 0, 1, 2, 3
 
 NAMES = ['a', 'b', 'c', 'd'] * 6 + [
     'a@', '@', '@a', '...', '-n', '#', '*', '\\', "'q'", '"q"', '$(x)', '~', '\xc3\xa9', '\xff\x80', 'A' * 255,
@@ -26,8 +26,9 @@ BAD_PATHS = [
 BAD_LINES = [
     'frob /a', 'mkdir', 'mkdir /a /b', ' ls /', 'ls  /', 'ls / ', 'ls\t/', 'LS /', 'cat /a 0 0',
     'cat /a 0 16385', 'cat /a 00 1', 'fill /a 0 65537 00', 'fill /a 0 1 0', 'write /a 0 0', 'write /a 0 0g',
-    'truncate /a -1', 'truncate /a 18446744073709551616', 'sync /', 'prune /', '1: ls /', 'progress',
-    'ls /\x7f', 'df /', '\r',
+    'truncate /a -1', 'truncate /a 18446744073709551616', 'sync /', 'prune', '1: ls /', 'progress',
+    'ls /\x7f', 'df /', '\r', 'reblock', 'pfs-upgrade /a', 'mirror-copy /a /b', 'pfs-master /a 00000000000000a',
+    'prune-everything / /', '1: prune /',
 ]
 DEEPEST = 12
 EDGES = [0, 1, 2, 9, 4_095, 4_096, 16_383, 16_384, 16_385, 32_767, 32_768, 40_000, 65_536, 100_000]
@@ -51,12 +52,17 @@ class Author:
         self.on_bytes = seed % 6 == BYTES
         if self.on_bytes:
             self.names = ['a', 'b', 'c']
+        self.on_kept = seed % 6 == KEPT
+        if self.on_kept:
+            self.nest()
         if seed % 6 == WIDE:
             self.widen(400)
         end = len(self.lines) + LINES
         while len(self.lines) < end:
             self.run(self.random.randint(LINES // 4, LINES))
             self.lines.append(NEXT_RUN)
+        if self.on_kept:
+            self.prune_each()
         self.look_back()
 
     def chance(self, share):
@@ -91,23 +97,45 @@ class Author:
             self.add(f'{call} {self.random.choice(["", "/a"])}/{name}')
         self.names = NAMES + names[:40]
 
+    def nest(self):
+        """Makes pseudo file systems, one in another, with a directory in each in which snapshots may stand."""
+        path = ''
+        for name in self.random.choices(['a', 'b', 'c'], k=3):
+            for line in f'mkdir {path}/s', f'pfs-master {path}/{name} 00000000000000aa', f'touch {path}/f':
+                self.add(line)
+            path += f'/{name}'
+
+    def prune_each(self):
+        """Prunes what has a directory for snapshots, to a few kept ids: many elements begin or end at just one of them."""
+        for path in self.paths('d'):
+            if path.endswith('/s'):
+                system = self.volume.systems[int(self.add(f'pfs-status {path}')[0].split(' ')[3])]
+                for i in range(4):
+                    first, last = self.random.choice(system.kept.pairs())
+                    as_of = self.random.randint(first, min(last, self.volume.last))
+                    self.add(f'symlink @@0x{as_of:016x} {path}/z{i}')
+                self.add(f'prune {path}')
+
     def look_back(self):
-        """Reads what stood as of older ids."""
+        """Reads what stood as of older ids, and where some are not kept any more, most often as of one that is."""
         for _ in range(LOOKS):
             as_of = self.random.randint(1, self.volume.last)
-            path, obj = self.random.choice(self.things('dfl', as_of) or [('/', None)])
+            if self.chance(0.8):
+                first, last = self.random.choice(self.volume.systems[0].kept.pairs())
+                as_of = self.random.randint(first, min(last, self.volume.last))
+            path, obj = self.random.choice(self.things('dflp', as_of) or [('/', None)])
             begin = self.random.choice([0, self.offset()])
-            look = {'d': 'ls {}', 'f': f'cat {{}} {begin} 16384', 'l': 'readlink {}'}[obj.kind if obj else 'd']
+            look = {'f': f'cat {{}} {begin} 16384', 'd': 'ls {}'}.get(obj.kind if obj else 'd', 'readlink {}')
             self.add(self.random.choice([look, look, 'stat {}']).format(f'/@@0x{as_of:016x}{path}'.rstrip('/')))
 
     def run(self, count):
-        first = len(self.lines)
         for _ in range(count):
             self.add(self.line())
             if self.chance(0.02):
                 self.lines.append(self.random.choice(['', '#', '# remark', '#mkdir /a']))
-        # A run with a bad line is none: it stands before the next one.
+        # A run with a bad line is none: it stands before the next one, with all that this begins with.
         if self.chance(0.1):
+            first = max([place + 1 for place, line in enumerate(self.lines) if line == NEXT_RUN], default=0)
             bad = ['mkdir /bad', self.random.choice(BAD_LINES), 'rm /a'][self.random.randint(0, 1):]
             self.lines[first:first] = bad + [NEXT_RUN]
 
@@ -171,13 +199,13 @@ class Author:
         if self.chance(0.3):
             return self.random.choice(BAD_PATHS).replace('{id}', self.an_id()[1])
         if self.chance(0.4):
-            return self.at_id('dfl')
+            return self.at_id('dflp')
         return ''.join('/' + self.random.choice(self.names) for _ in range(self.random.randint(0, 4))) or '/'
 
     def there(self, kinds, past=0.0):
         """A path to one of some kinds, most often."""
         if self.chance(self.errs):
-            return self.stray() if self.chance(0.5) else self.random.choice(self.paths('dfl'))
+            return self.stray() if self.chance(0.5) else self.random.choice(self.paths('dflp'))
         return self.at_id(kinds) if self.chance(past) else self.random.choice(self.paths(kinds))
 
     def new(self):
@@ -208,45 +236,59 @@ class Author:
         calls = {
             'mkdir': 7, 'touch': 8, 'symlink': 3, 'snapshot': 2, 'ln': 6, 'rm': 6, 'rmdir': 4, 'mv': 12,
             'ls': 6, 'stat': 7, 'readlink': 3, 'write': 10, 'fill': 8 + 10 * self.fills, 'truncate': 8,
-            'cat': 14, 'df': 2, 'sync': 1, 'synctid': 1,
+            'cat': 14, 'df': 2, 'sync': 1, 'synctid': 1, 'prune': 1, 'prune-everything': 0.2, 'pfs-master': 1,
+            'pfs-slave': 0.5, 'pfs-status': 1,
         }
         if self.on_bytes:
             calls |= {'write': 60, 'fill': 60, 'truncate': 60, 'cat': 80}
+        if self.on_kept:
+            calls |= {'symlink': 15, 'snapshot': 20, 'mv': 20, 'prune': 12, 'prune-everything': 0.5, 'pfs-master': 5,
+                      'pfs-slave': 3, 'pfs-status': 8, 'readlink': 6}
         if not self.served:
             calls |= {name: 2 for name in PLANNED} | {'mirror-copy': 6, 'prune-everything': 0.3}
         name = self.random.choices(list(calls), calls.values())[0]
         return f'{name} {getattr(self, name.replace("-", "_"))()}'.rstrip(' ')
 
-    mkdir = touch = snapshot = new
+    mkdir = touch = new
+
+    def snapshot(self):
+        """A new name; in a script on what is kept most often one in a directory for snapshots."""
+        found = [path for path in self.paths('d') if path.endswith('/s')] if self.on_kept else []
+        return f'{self.random.choice(found)}/{self.volume.last}' if found and self.chance(0.7) else self.new()
 
     def symlink(self):
-        target = self.random.choice(['t', '/a', '*', '@@0x' + '0' * 15 + '3', 'x' * 1_023, '\xff"\\'])
-        return f'{target} {self.new()}'
+        digits, other = self.an_id()[1], self.an_id()[1]
+        target = self.random.choice(['t', '/a', '*', 'x' * 1_023, '\xff"\\'] + [
+            f'@@0x{digits}', f'x@@0x{digits}y', f'@@0x{digits}{other}', f'@@@@0x{digits}', f'@@0x{digits}@@0x{other}',
+            f'@@0x{digits[1:]}@@0x{other}', f'@@0X{digits}', f'@@0x@@0x{digits}', f'@@{digits}', '@@-1:00001',
+            'x' * 1_003 + f'@@0x{digits}', 'x' * 1_004 + f'@@0x{digits[1:]}', f'@@0x{digits[1:]}g',
+        ])
+        return f'{target} {self.snapshot()}'
 
     def ln(self):
         return f'{self.there("f")} {self.new()}'
 
     def mv(self):
-        old = self.there('dfl')
+        old = self.there('dflp')
         if self.chance(0.15):
             return f'{old} {old.rstrip("/")}' + self.random.choice(['', '/a', '/b/c'])
-        new = self.there('dfl') if self.chance(0.3) else self.new()
+        new = self.there('dflp') if self.chance(0.3) else self.new()
         return f'{old} {new}'
 
     def rm(self):
-        return self.there('fl')
+        return self.there('fl' if self.chance(0.9) else 'p')
 
     def rmdir(self):
-        return self.there('d')
+        return self.there('d' if self.chance(0.9) else 'p')
 
     def ls(self):
         return self.there('d', past=0.5)
 
     def stat(self):
-        return self.there('dfl', past=0.4)
+        return self.there('dflp', past=0.4)
 
     def readlink(self):
-        return self.there('l', past=0.4)
+        return self.there('lp', past=0.4)
 
     def write(self):
         return f'{self.there("f")} {self.offset()} {self.data()}'
@@ -266,15 +308,7 @@ class Author:
 
     df = sync = synctid = progress = nothing
 
-    # ---- what is planned
-
-    def reblock(self):
-        return self.random.choice(['', '1', '50', '100'])
-
-    def link(self, master):
-        """A path to a PFS of a role, most often."""
-        found = [path for path, obj in self.things('p') if self.volume.systems[obj.content].master == master]
-        return self.there('dp') if not found or self.chance(self.errs) else self.random.choice(found)
+    # ---- what is kept
 
     def prune(self):
         found = [path.rsplit('/', 1)[0] or '/' for path in self.paths('l')]
@@ -289,6 +323,16 @@ class Author:
         return f'{self.new()} 00000000000000{self.random.choice(["aa", "aa", "aa", "AA", "bb"])}'
 
     pfs_slave = pfs_master
+
+    # ---- what is planned
+
+    def reblock(self):
+        return self.random.choice(['', '1', '50', '100'])
+
+    def link(self, master):
+        """A path to a PFS of a role, most often."""
+        found = [path for path, obj in self.things('p') if self.volume.systems[obj.content].master == master]
+        return self.there('dp') if not found or self.chance(self.errs) else self.random.choice(found)
 
     def pfs_upgrade(self):
         return self.link(self.chance(self.errs))

@@ -3,6 +3,7 @@
 from typing import NamedTuple
 
 GREATEST = 2**63 - 1  # the greatest id
+NO_END = 2**64 - 1  # the open end of an interval
 ROOT = 1  # the object of each root directory
 
 
@@ -93,10 +94,17 @@ class Kept(NamedTuple):
         last = max(self.ids)
         return Kept(self.ids - {last}, last)
 
+    def pairs(self):
+        """The first and the last id of each interval, adjacent ones together; an open end is `NO_END`."""
+        pairs = []
+        for first, last in [(i, i) for i in sorted(self.ids)] + [(self.since, NO_END)] * (self.since is not None):
+            if pairs and pairs[-1][1] == first - 1:
+                first = pairs.pop()[0]
+            pairs.append((first, last))
+        return pairs
+
     def intervals(self):
-        """How many intervals the ids make, adjacent ones together."""
-        firsts = set(self.ids) | ({self.since} if self.since is not None else set())
-        return sum(not self.keeps(i - 1) for i in firsts)
+        return len(self.pairs())
 
 
 MASTER_KEEPS = Kept(since=1)

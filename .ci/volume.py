@@ -2,6 +2,7 @@
 volume whose structures have names, by which their fields are read and damaged.
 """
 
+import functools
 import os
 import subprocess
 import sys
@@ -60,6 +61,7 @@ def damage(kind, place):
     return (10, f'damaged 0x{place:016x} {kind}\n') if kind else (0, '')
 
 
+@functools.cache
 def name_hash(name):
     """The 64-bit FNV-1a hash of a name."""
     value = 0xcbf29ce484222325
