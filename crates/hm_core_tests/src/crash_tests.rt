@@ -1,7 +1,7 @@
 // Crashes within a flush, between whose stages calls go on, and within the recoveries that follow: each image is
 // mounted, and compared with a volume that ran the calls up to its boundary alone.
 use crate::asks::Ask;
-use crate::crashes::{Due, Volumes, mount_all};
+use crate::crashes::{Volumes, mount_between};
 use crate::shown::{Look, Shown};
 use crate::test_disk::TestDisk;
 use crate::volume::{
@@ -47,11 +47,17 @@ const FROZEN: Id = Id(40);
 // Four pages changed, all of them live: the root, two leaves and one of layer 2.
 const STAGES: u32 = 17;
 
-// After so many of them the header is opened that names the log, and after so many half of the pages are placed, and
-// all of them.
+// After so many of them the old bytes of half the pages are in the log, before so many the header is opened that names
+// it, and after so many two pages are placed, and three, and all of them.
+const HALF_LOGGED: u32 = 2;
+
+const LOGGED: u32 = 4;
+
 const ARMED: u32 = 9;
 
-const HALF_PLACED: u32 = 11;
+const TWO_PLACED: u32 = 11;
+
+const THREE_PLACED: u32 = 12;
 
 const PLACED: u32 = 13;
 
@@ -101,7 +107,7 @@ const FILLED: [(u64, u32); 2] = [
 ];
 
 // A new volume two of whose append big-blocks are nearly filled.
-fn nearly_filled(rt: &impl Abort, alloc: Global) -> Result<TestDisk, NoMemory> {
+pub fn nearly_filled(rt: &impl Abort, alloc: Global) -> Result<TestDisk, NoMemory> {
     let mut disk = made(rt, alloc);
     for (place, filled) in FILLED {
         assert_eq!(rt; disk.write_at(place, &filled.to_le_bytes()), Ok(()));
@@ -217,36 +223,37 @@ fn changes_of(
 
 // Mounts what crashes may leave from the end of one of these stages to that of the other. How many images were
 // recovered.
-fn mount_between(
-    rt: &impl Abort,
-    alloc: Global,
-    new: &TestDisk,
-    from: u32,
-    to: u32,
-) -> Result<u32, NoMemory> {
-    let volumes = volumes_alone(rt, alloc, new)?;
-    let disk = stopped(rt, flushed(rt, alloc, new, STAGES)?);
-    let first = changes_of(rt, alloc, new, from)?;
-    let last = changes_of(rt, alloc, new, to)?;
-    let mut recovered: u32 = 0;
-    for count in first..=last {
-        // Before the last two changes, the last stage was not begun.
-        let due = Due {
-            committed: count < disk.changes(),
-            frozen: disk.changes() < count.saturating_add(2),
-        };
-        recovered = recovered.saturating_add(mount_all(rt, alloc, &volumes, &disk, count, due)?);
-    }
-    Ok(recovered)
+fn mount_stages(rt: &impl Abort, alloc: Global, from: u32, to: u32) -> Result<u32, NoMemory> {
+    let new = nearly_filled(rt, alloc)?;
+    let volumes = volumes_alone(rt, alloc, &new)?;
+    let disk = stopped(rt, flushed(rt, alloc, &new, STAGES)?);
+    let first = changes_of(rt, alloc, &new, from)?;
+    let last = changes_of(rt, alloc, &new, to)?;
+    mount_between(rt, alloc, &volumes, &disk, (first, last), disk.changes())
+}
+
+#[test]
+fn a_flush_with_calls_between_its_stages_ends_as_alone(rt: HostRuntime) -> Result<(), Fail> {
+    let alloc = rt.alloc();
+    ends_as_alone(&rt, alloc, &nearly_filled(&rt, alloc)?)?;
+    Ok(())
+}
+
+#[test]
+fn a_crash_while_the_log_is_begun_leaves_the_old_volume(rt: HostRuntime) -> Result<(), Fail> {
+    assert_eq!(rt; mount_stages(&rt, rt.alloc(), 0, HALF_LOGGED)?, 0);
+    Ok(())
+}
+
+#[test]
+fn a_crash_while_the_log_is_written_leaves_the_old_volume(rt: HostRuntime) -> Result<(), Fail> {
+    assert_eq!(rt; mount_stages(&rt, rt.alloc(), HALF_LOGGED, LOGGED)?, 0);
+    Ok(())
 }
 
 #[test]
 fn a_crash_before_the_log_counts_leaves_the_old_volume(rt: HostRuntime) -> Result<(), Fail> {
-    let alloc = rt.alloc();
-    let new = nearly_filled(&rt, alloc)?;
-    ends_as_alone(&rt, alloc, &new)?;
-    let recovered = mount_between(&rt, alloc, &new, 0, ARMED - 1)?;
-    assert_eq!(rt; recovered, 0);
+    assert_eq!(rt; mount_stages(&rt, rt.alloc(), LOGGED, ARMED - 1)?, 0);
     Ok(())
 }
 
@@ -254,29 +261,28 @@ fn a_crash_before_the_log_counts_leaves_the_old_volume(rt: HostRuntime) -> Resul
 fn a_crash_while_the_first_pages_are_placed_leaves_the_old_volume(
     rt: HostRuntime,
 ) -> Result<(), Fail> {
-    let alloc = rt.alloc();
-    let new = nearly_filled(&rt, alloc)?;
-    let recovered = mount_between(&rt, alloc, &new, ARMED - 1, HALF_PLACED)?;
-    assert!(rt; recovered > 50);
+    assert!(rt; mount_stages(&rt, rt.alloc(), ARMED - 1, TWO_PLACED)? > 50);
     Ok(())
 }
 
 #[test]
-fn a_crash_while_the_last_pages_are_placed_leaves_the_old_volume(
+fn a_crash_while_the_next_page_is_placed_leaves_the_old_volume(
     rt: HostRuntime,
 ) -> Result<(), Fail> {
-    let alloc = rt.alloc();
-    let new = nearly_filled(&rt, alloc)?;
-    let recovered = mount_between(&rt, alloc, &new, HALF_PLACED, PLACED)?;
-    assert!(rt; recovered > 50);
+    assert!(rt; mount_stages(&rt, rt.alloc(), TWO_PLACED, THREE_PLACED)? > 50);
+    Ok(())
+}
+
+#[test]
+fn a_crash_while_the_last_page_is_placed_leaves_the_old_volume(
+    rt: HostRuntime,
+) -> Result<(), Fail> {
+    assert!(rt; mount_stages(&rt, rt.alloc(), THREE_PLACED, PLACED)? > 50);
     Ok(())
 }
 
 #[test]
 fn a_crash_while_the_header_changes_leaves_one_of_two_volumes(rt: HostRuntime) -> Result<(), Fail> {
-    let alloc = rt.alloc();
-    let new = nearly_filled(&rt, alloc)?;
-    let recovered = mount_between(&rt, alloc, &new, PLACED, STAGES)?;
-    assert!(rt; recovered > 20);
+    assert!(rt; mount_stages(&rt, rt.alloc(), PLACED, STAGES)? > 10);
     Ok(())
 }

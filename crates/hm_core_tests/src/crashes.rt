@@ -9,9 +9,9 @@ use std::process::Abort;
 
 // Which of two volumes an image may recover to.
 #[derive(Clone, Copy, Debug)]
-pub struct Due {
-    pub committed: bool,
-    pub frozen: bool,
+struct Due {
+    committed: bool,
+    frozen: bool,
 }
 
 // What the volumes show that ran the calls up to the committed and up to the frozen boundary alone.
@@ -52,12 +52,10 @@ impl Volumes {
 // How much is put of a write that is torn.
 const FRONTS: [usize; 4] = [1, 16, 2_048, 4_095];
 
-// In how many ways a crash after so many changes of a disk is tried. It loses nothing, or it loses or tears one
-// unsettled write, by turns, and where a sync is next both.
+// In how many ways a crash after so many changes of a disk is tried: it loses nothing, or it loses or tears one
+// unsettled write.
 fn ways(disk: &TestDisk, count: usize) -> usize {
-    let unsettled = disk.unsettled(count);
-    let turns = if is_before_sync(disk, count) { 2 } else { 1 };
-    unsettled.saturating_mul(turns).saturating_add(1)
+    disk.unsettled(count).saturating_mul(2).saturating_add(1)
 }
 
 fn is_before_sync(disk: &TestDisk, count: usize) -> bool {
@@ -74,15 +72,8 @@ fn image_of(
     if way == 0 {
         return disk.crashed(alloc, count, Crash::Lost(&[]));
     }
-    let number = way - 1;
-    let unsettled = disk.unsettled(count);
-    let (write, is_second) = if number < unsettled {
-        (number, false)
-    } else {
-        (number - unsettled, true)
-    };
-    let is_lost = (write % 2 == count % 2) != is_second;
-    if is_lost {
+    let write = (way - 1) / 2;
+    if way % 2 == 1 {
         return disk.crashed(alloc, count, Crash::Lost(&[write]));
     }
     let front = FRONTS[write % 4];
@@ -91,7 +82,7 @@ fn image_of(
 
 // Mounts what a crash after so many changes of a disk may leave, and what crashes within the recoveries may. How many
 // of the images were recovered.
-pub fn mount_all(
+fn mount_all(
     rt: &impl Abort,
     alloc: Global,
     volumes: &Volumes,
@@ -113,6 +104,29 @@ pub fn mount_all(
             _ => Cuts::One(way % 8),
         };
         mount_within(rt, alloc, volumes, &next, first, is, cuts)?;
+    }
+    Ok(recovered)
+}
+
+// Mounts what crashes may leave after so many changes of a disk and after so many, within a flush that has ended after
+// so many. How many images were recovered.
+pub fn mount_between(
+    rt: &impl Abort,
+    alloc: Global,
+    volumes: &Volumes,
+    disk: &TestDisk,
+    changes: (usize, usize),
+    end: usize,
+) -> Result<u32, NoMemory> {
+    let (first, last) = changes;
+    let mut recovered: u32 = 0;
+    for count in first..=last {
+        // Before its last two changes, the last stage was not begun.
+        let due = Due {
+            committed: count < end,
+            frozen: end < count.saturating_add(2),
+        };
+        recovered = recovered.saturating_add(mount_all(rt, alloc, volumes, disk, count, due)?);
     }
     Ok(recovered)
 }

@@ -11,13 +11,25 @@ mod crash_tests;
 #[cfg(test)]
 mod crashes;
 #[cfg(test)]
+mod elements;
+#[cfg(test)]
 mod flush_tests;
+#[cfg(test)]
+mod lines;
 #[cfg(test)]
 mod many_tests;
 #[cfg(test)]
 mod memory_tests;
 #[cfg(test)]
 mod page_tests;
+#[cfg(test)]
+mod prune_crash_tests;
+#[cfg(test)]
+mod prune_end_tests;
+#[cfg(test)]
+mod prune_tests;
+#[cfg(test)]
+mod run;
 #[cfg(test)]
 mod shown;
 #[cfg(test)]

@@ -1,5 +1,7 @@
 // How many pages change before a call waits, to the page, also while a flush is in flight.
 use crate::asks::Ask;
+use crate::elements::{ON, dead, elements_on};
+use crate::run::Run;
 use crate::test_disk::TestDisk;
 use crate::volume::{
     Came, OTHER_STAGES, Volume, answered, do_all, ended, finished, made, mounted, try_since,
@@ -134,5 +136,64 @@ fn a_call_waits_from_1024_changed_pages_on(rt: HostRuntime) -> Result<(), Fail> 
     let disk = prepared(&rt, alloc)?;
     let calls = waits_twice(&rt, alloc, &disk)?;
     waits_from_1025(&rt, alloc, &disk, calls)?;
+    Ok(())
+}
+
+// A volume on which three prunes are open, a flush is in flight after its first two stages, and the group of changed
+// pages is full.
+fn full_again(rt: &impl Abort, alloc: Global, disk: TestDisk) -> Result<Run, NoMemory> {
+    let mut run = Run::new(rt, alloc, disk);
+    for _ in 0..3 {
+        run.asks(rt, alloc, "prune-everything /", "ok")?;
+    }
+    for turn in [0, 1] {
+        for number in 0..2 * EACH {
+            if !run.tries(rt, alloc, call(turn, number))? {
+                break;
+            }
+        }
+    }
+    Ok(run)
+}
+
+// Each stage in place of a unit of a prune, which does nothing else, until the flush has ended.
+fn stages_in_place(rt: &impl Abort, alloc: Global, run: &mut Run) -> Result<u32, NoMemory> {
+    let (last, boundary) = (run.last(), run.boundary());
+    for stages in 0..4_096 {
+        if run.boundary() != boundary {
+            return Ok(stages);
+        }
+        assert_eq!(rt; run.unit(rt, alloc, 0)?, None);
+        assert_eq!(rt; run.last(), last);
+    }
+    panic!(rt; "the flush does not end")
+}
+
+// Where the group is full a stage is made in place of a unit. One that fails, as it reads and as it writes, ends the
+// prune for which it was made, and is made again for the next one, which comes to its end.
+#[test]
+fn a_stage_is_made_in_place_of_a_unit_where_the_group_is_full(rt: HostRuntime) -> Result<(), Fail> {
+    let alloc = rt.alloc();
+    let disk = prepared(&rt, alloc)?;
+    let calls = full_again(&rt, alloc, disk.copy(alloc)?)?
+        .stopped(&rt)
+        .calls();
+    let fails = Vec::from_slice(alloc, &[calls.saturating_add(1), calls.saturating_add(3)])?;
+    let mut run = full_again(&rt, alloc, disk.failing(fails))?;
+    for want in [&b" media 0 1"[..], b" media 1 2"] {
+        let ending = run.unit(&rt, alloc, 0)?;
+        assert!(rt; ending.is_some_and(|text| text.ends_with(want)));
+    }
+    let stages = stages_in_place(&rt, alloc, &mut run)?;
+    assert_eq!(rt; stages, stages_of(1_024).saturating_sub(2));
+    let (_, ending) = run.end(&rt, alloc, 0)?;
+    assert!(rt; ending.ends_with(b" done"));
+    run.asks(&rt, alloc, "prune-everything /", "ok")?;
+    let opening = run.last().0;
+    let (_, ending) = run.end(&rt, alloc, 0)?;
+    assert!(rt; ending.ends_with(b" done"));
+    let mut disk = run.finished(&rt);
+    let elements = elements_on(&rt, alloc, &mut disk)?;
+    assert_eq!(rt; dead(&elements, 0, &[(opening, ON)]), 0);
     Ok(())
 }

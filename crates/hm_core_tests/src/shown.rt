@@ -22,7 +22,7 @@ const BLOCKS: [(u32, u8); 9] = [
     (6, 0),
 ];
 
-// How much of a volume is looked at: all that it retains, or its names now and the beginnings of two files.
+// How much of a volume is looked at: all that it retains, or its names and the first blocks of two files as of now.
 #[derive(Clone, Copy)]
 pub enum Look {
     Whole,
@@ -70,13 +70,12 @@ impl Shown {
 fn is_looked_at(look: Look, ask: Ask, last: Id) -> bool {
     match (look, ask) {
         (Look::Whole, _) | (Look::Short, Ask::Ls) => true,
-        (Look::Short, Ask::FrontAt(id, 0 | 3, 0)) => u64::from(id) == last.0,
+        (Look::Short, Ask::BlockAt(id, 0 | 3, 0)) => u64::from(id) == last.0,
         (Look::Short, _) => false,
     }
 }
 
-// The names, and the front of each block, as of each id up to the last; whole blocks as of each eighth of these; and
-// what tells of the files as of now.
+// The names, and each block, as of each id up to the last; and what tells of the files as of now.
 fn asks_of(alloc: Global, last: u8) -> Result<Vec<Ask>, NoMemory> {
     let mut asks = Vec::new(alloc);
     asks.push(Ask::Ls)?;
@@ -92,10 +91,7 @@ fn asks_of(alloc: Global, last: u8) -> Result<Vec<Ask>, NoMemory> {
 fn push_asks_at(asks: &mut Vec<Ask>, id: u8) -> Result<(), NoMemory> {
     asks.push(Ask::LsAt(id))?;
     for (file, block) in BLOCKS {
-        asks.push(Ask::FrontAt(id, file, block))?;
-        if id % 8 == 0 {
-            asks.push(Ask::BlockAt(id, file, block))?;
-        }
+        asks.push(Ask::BlockAt(id, file, block))?;
     }
     Ok(())
 }
@@ -130,6 +126,7 @@ fn copy_of(rt: &impl Abort, reply: &Reply) -> Result<Reply, NoMemory> {
             links: *links,
         }),
         Reply::NotFound => Ok(Reply::NotFound),
+        Reply::NotRetained => Ok(Reply::NotRetained),
         Reply::IsDir => Ok(Reply::IsDir),
         _ => panic!(rt; "{reply:?}"),
     }
