@@ -25,7 +25,7 @@ use Rattle.hm_calls.specs.declared.answered.Answered.TheVariants.{Opened, Replie
 use Rattle.hm_image.specs.StandFor.{StandFor}
 use Rattle.hm_stored.specs.Heap.{Heap}
 use Rattle.hm_stored.specs.Standing.{Holds}
-use Rattle.hm_step.specs.Next.{Asked, GoesOn, IsEventOf, LeadsTo, StandIfFit, UsedBelow, opened_after}
+use Rattle.hm_step.specs.Next.{Asked, GoesOn, IsEventOf, IsLedIfOpened, StandIfFit, UsedBelow, opened_after}
 use Rattle.hm_step.specs.Seen.{AreGiven}
 use Rattle.hm_step.specs.Step.{IsFailure, IsNext}
 use Rattle.hm_step.proofs.HistoryLemmas.{allowed_failed, keeps_failed, opened_failed, stands_failed}
@@ -162,7 +162,7 @@ module _ (free : ℕ) (start faults faults' : Counts) (history : List Entry) (h 
       -- what is open afterwards
       are_open : AreOpen (running_after entry answered running) after
       are_open = by answered stepped.opened stepped.leads form where
-        by : (a : Answered) → after.opened ≡ opened_after state call a → LeadsTo after.volume a → IsFormOf entry.call a
+        by : (a : Answered) → after.opened ≡ opened_after state call a → IsLedIfOpened after.volume a → IsFormOf entry.call a
             → AreOpen (running_after entry a running) after
         by (Replied reply) same leads form_is =
             open_same running state after same stepped.jobs (let last_is = comes.last in omega (arith, last_is)) so_far.held.opened

@@ -17,7 +17,8 @@ use Rattle.hm_calls.specs.declared.answered.Answered.{Answered}
 use Rattle.hm_calls.specs.declared.answered.Answered.TheVariants.{Opened, Replied}
 use Rattle.hm_calls.specs.declared.pruning.Led.{Led}
 use Rattle.hm_model.specs.After.{Event, end_id}
-use Rattle.hm_model.specs.Caused.{AreCaused, Counts, HasCause, IsCaused, Known, is_housekeeping, known_after, known_after_entry, known_at, number_of, opens, possible}
+use Rattle.hm_model.specs.Caused.{AreCaused, Counts, HasCause, IsCaused, Known, is_housekeeping, known_after, known_after_entry, known_at}
+use Rattle.hm_model.specs.Caused.{number_of, opens, possible}
 use Rattle.hm_model.specs.Command.{named_opening}
 use Rattle.hm_model.specs.Reply.{is_refusal, passed_ids}
 use Rattle.hm_model.specs.declared.command.Command.{Command}
@@ -264,7 +265,8 @@ module _ (first : ℕ) (start faults faults' : Counts) (last : ℕ) (running : L
           subst (λ (n : ℕ). MayReply n None entry.call entry.reply) (sym so_far.last_is) may in
           goes_on event (may_cause known event next None here faults') (may_end known event next None here) own (running_after entry answered running)
           (by answered form is) where
-            by : (a : Answered) → IsFormOf entry.call a → entry.reply ≡ reply_in a → AreKnownOpen (known_after_entry known entry) (running_after entry a running)
+            by : (a : Answered) → IsFormOf entry.call a → entry.reply ≡ reply_in a
+                → AreKnownOpen (known_after_entry known entry) (running_after entry a running)
             by (Replied reply) form_is told =
                 open_still (no_opening entry.call entry.reply served (λ prunes. subst TellsRefusal (sym told) (form_is prunes)))
             by (Opened led) form_is told =

@@ -77,7 +77,8 @@ told_held es xs held P tells all = by (content_of es xs) tells all where
 -- The reply that a call is due over a store is the one that it is due over the space that the store was opened over.
 module _ (last : ℕ) (command : Command) (reply : Reply) (numbers : ℕ) where
   abbrev pub IsDueFor : (ℕ → ℕ) → ℕ → List FullElement → Type 0
-  IsDueFor room free es = (call : Call) → IsCall name_hash (last + 1) es call → AsksBeside command (told_beside numbers) es call → reply ≡ due_over call room free
+  IsDueFor room free es = (call : Call) → IsCall name_hash (last + 1) es call → AsksBeside command (told_beside numbers) es call
+      → reply ≡ due_over call room free
 
   pub due_held : (es : Option (List Element)) (xs : Option (List Extent)) (room : ℕ → ℕ) (free : ℕ) (h : Heap) (root : ℕ) (held : List FullElement)
       → room ≡ room_of h → free ≡ free_of h → IsClosed h → Holds h root held → TellsHeld es xs h root
@@ -173,7 +174,8 @@ module _ (free : ℕ) (start counts : Counts) (history : List Entry) (h : Heap) 
 
   pub due_next : IsLegalOver free start counts history h root last running opening foreigners events → IsAnswerable event.entry.call
       → ((es : List FullElement) → Holds h root es → AreGiven es (state_after run events).volume event.substitutes)
-      → UsedBelow numbers (state_after run events).volume → ReadsPaths (call_after run events event) → IsReplied numbers faults faults' last event.entry.call h root event.entry.reply
+      → UsedBelow numbers (state_after run events).volume → ReadsPaths (call_after run events event)
+      → IsReplied numbers faults faults' last event.entry.call h root event.entry.reply
       → (event.entry.reply ≡ due_over (call_after run events event) (room_of h) (free_now h root)) ⊎ TellsFailure faults faults' event.entry.reply
   due_next so_far answers given used reads replied =
       let volume = (state_after run events).volume in

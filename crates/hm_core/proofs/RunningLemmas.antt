@@ -1,5 +1,6 @@
 -- Prunes that are open: what is found among them, and what stays once one of them ended.
-use Rattle.std.proofs.Common.{◌≡◌, ℕ, zero, suc, ◌+◌, ◌<◌, ◌≤◌, Bool, true, false, List, [], ◌∷◌, filter, length, refl, sym, ap, subst, ◌∙◌, arith, eqb, eqb-true}
+use Rattle.std.proofs.Common.{◌≡◌, ℕ, zero, suc, ◌+◌, ◌<◌, ◌≤◌, Bool, true, false, List, [], ◌∷◌, filter, length, refl, sym, ap, subst, ◌∙◌, arith}
+use Rattle.std.proofs.Common.{eqb, eqb-true}
 use Rattle.std.specs.Prelude.{IsSome, Option, Some, None, find, if◌then◌else◌, slice_index_or, slice_set}
 use Rattle.std.specs.List.{AllByRecursion}
 use Rattle.std.proofs.lemmas.Bool.{eq-eqb}
@@ -16,7 +17,7 @@ use Rattle.hm_model.proofs.EventLemmas.{IdsFollow}
 use Rattle.hm_model.proofs.KnownLemmas.{Agrees, Agrees-event, pairs}
 use Rattle.hm_prune.specs.declared.prune.Prune.{Prune}
 use Rattle.hm_core.specs.Open.{IsPrune}
-use Rattle.hm_core.specs.Running.{open_prune, open_prunes, place_in}
+use Rattle.hm_core.specs.Running.{open_prune, open_prunes, place_among}
 use Rattle.hm_core.specs.State.{OpenPrune, prune_with, prunes_beside}
 use Rattle.hm_core.specs.declared.running.Running.{Running}
 
@@ -104,12 +105,12 @@ pub record StandsAt (rs : List Running) (at : ℕ) (p : OpenPrune) : Type 0 wher
   pub within : at < length rs
   pub is : (d : Running) → open_prune (slice_index_or rs at d) ≡ p
 
-pub place_has : (id : ℕ) (rs : List Running) (p : OpenPrune) → prune_with id (open_prunes rs) ≡ Some p → StandsAt rs (place_in id rs) p
+pub place_has : (id : ℕ) (rs : List Running) (p : OpenPrune) → prune_with id (open_prunes rs) ≡ Some p → StandsAt rs (place_among id rs) p
 place_has id [] p found = absurd cc
 place_has id (r ∷ rs) p found = by (eqb r.opening.0 id) found (place_has id rs p) where
   by : (here : Bool) → (if here then Some (open_prune r) else prune_with id (open_prunes rs)) ≡ Some p
-      → (prune_with id (open_prunes rs) ≡ Some p → StandsAt rs (place_in id rs) p)
-      → StandsAt (r ∷ rs) (if here then 0 else suc (place_in id rs)) p
+      → (prune_with id (open_prunes rs) ≡ Some p → StandsAt rs (place_among id rs) p)
+      → StandsAt (r ∷ rs) (if here then 0 else suc (place_among id rs)) p
   by true found rest = (let one : open_prune r ≡ p = cc in record { within = omega arith; is = λ d. one })
   by false found rest = (let later = rest found in let within = later.within in record { within = omega (arith, within); is = later.is })
 
@@ -141,7 +142,7 @@ as_many (x ∷ xs) zero r = refl
 as_many (x ∷ xs) (suc at) r = ap suc (as_many xs at r)
 
 -- the one that is read at the place of an opening id is open by it
-pub found_read : (id : ℕ) (rs : List Running) (at : ℕ) (r : Running) → at ≡ place_in id rs → r ≡ slice_index_or rs at r
+pub found_read : (id : ℕ) (rs : List Running) (at : ℕ) (r : Running) → at ≡ place_among id rs → r ≡ slice_index_or rs at r
     → IsSome (prune_with id (open_prunes rs)) → prune_with id (open_prunes rs) ≡ Some (open_prune r)
 found_read id rs at r place read there =
     let (p, found) = open_is id (open_prunes rs) there in

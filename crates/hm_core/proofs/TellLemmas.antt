@@ -134,7 +134,8 @@ module _ (old new : Heap) (root root' faults faults' : ℕ) (closed : IsClosed o
           (space, free, of.reply_is, pool_is, omega (arith, is_free, enough), omega (arith, is_free, pool_is, free_most)));
     }
 
-    pub failed_answers : (numbers boundary : ℕ) (fault : Fault) → IsFreemapDamage old.bigblocks old.append (IsPool old.bigblocks) (maps_of old) fault → IsCaused 0 0 fault
+    pub failed_answers : (numbers boundary : ℕ) (fault : Fault)
+        → IsFreemapDamage old.bigblocks old.append (IsPool old.bigblocks) (maps_of old) fault → IsCaused 0 0 fault
         → AnswersOver numbers boundary faults faults' last Df old new root root' (Replied (reply_to fault))
     failed_answers numbers boundary fault bad caused = record {
       form = λ prunes. absurd (false≢true prunes);

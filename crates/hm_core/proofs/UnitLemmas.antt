@@ -161,7 +161,8 @@ module _ (ids : ℕ → Option (List (ℕ × ℕ))) (h h1 h2 h' : Heap) (root ro
     }
 
   -- it was dropped
-  pub dropped_unit : IsDropped h2 h' → root' ≡ h2.roots.current → IfSome (begun_content h2) (Holds h' root') → UnitLeaves ids faults faults' last h h' root root'
+  pub dropped_unit : IsDropped h2 h' → root' ≡ h2.roots.current → IfSome (begun_content h2) (Holds h' root')
+      → UnitLeaves ids faults faults' last h h' root root'
   dropped_unit drops root_is held = record {
     closed = dropped_closed h h1 h2 h' root last closed kept opens frame drops;
     counted = counted;
@@ -203,7 +204,8 @@ uncounted ids faults faults' last h h' root root' leaves = record {
 
 -- a history that was legal over a space stays so over what a unit of one of its open prunes leaves
 pub unit_legal : (id : ℕ) (p : OpenPrune) (faults faults' last : ℕ) (h h' : Heap) (root root' : ℕ) (running : List OpenPrune)
-    → prune_with id running ≡ Some p → UnitLeaves (keeps_in p.pfs p.kept) faults faults' last h h' root root' → (free : ℕ) (start counts : Counts) (history : List Entry)
+    → prune_with id running ≡ Some p → UnitLeaves (keeps_in p.pfs p.kept) faults faults' last h h' root root'
+    → (free : ℕ) (start counts : Counts) (history : List Entry)
     (opening : Volume) (foreigners : Foreigners) (events : List Event)
     → IsLegalOver free start (with_disk counts faults) history h root last running opening foreigners events
     → IsLegalOver free start (with_disk counts faults') history h' root' last running opening foreigners events

@@ -14,7 +14,7 @@ use Rattle.hm_model.specs.declared.reply.Reply.{Reply}
 use Rattle.hm_model.specs.declared.reply.Reply.TheVariants.{Finished}
 use Rattle.hm_state.specs.Volume.{HoldsVolume}
 use Rattle.hm_core.specs.Core.{Waits}
-use Rattle.hm_core.specs.Jobs.{DoesUnit, EndsPrune, FailsWith, IsFull, Works}
+use Rattle.hm_core.specs.Jobs.{DoesUnit, EndsPrune, FailsWith, IsFull, DoesWork}
 use Rattle.hm_core.specs.Staged.{FailsStage, MakesStage}
 use Rattle.hm_core.specs.State.{CoreState, OpenPrune, prune_with}
 use Rattle.hm_core.specs.Told.{reply_to}
@@ -52,11 +52,11 @@ module _ (opening : ℕ) (old new : CoreState) where
     by (Ok progress) cause undamaged = tt
     by (Err fault) cause undamaged = record { caused = cause; undamaged = undamaged }
 
-  pub stage_works : IsFull old → MakesStage old new → Works opening old new None
+  pub stage_works : IsFull old → MakesStage old new → DoesWork opening old new None
   stage_works full makes = record { waits = makes.waits; more = inl (full, makes); ends = tt }
 
   pub stage_ends : (fault : Fault) (reply : Reply) → FailsStage old new
-      → HasStageCause {T = Stage} old.flush.at old.counts.disk new.counts.disk (Err fault) → reply ≡ reply_to fault → Works opening old new (Some reply)
+      → HasStageCause {T = Stage} old.flush.at old.counts.disk new.counts.disk (Err fault) → reply ≡ reply_to fault → DoesWork opening old new (Some reply)
   stage_ends fault reply fails cause told = record {
     waits = fails.waits;
     more = tt;
@@ -73,17 +73,17 @@ module _ (opening : ℕ) (old new : CoreState) where
     };
   }
 
-  pub unit_works : ¬ IsFull old → DoesUnit opening old new (Ok More) → Works opening old new None
+  pub unit_works : ¬ IsFull old → DoesUnit opening old new (Ok More) → DoesWork opening old new None
   unit_works small does = record { waits = does.waits; more = inr (small, does.waits, does.flush); ends = tt }
 
-  pub unit_done : DoesUnit opening old new (Ok Done) → Works opening old new (Some Finished)
+  pub unit_done : DoesUnit opening old new (Ok Done) → DoesWork opening old new (Some Finished)
   unit_done does = record {
     waits = does.waits;
     more = tt;
     ends = record { tells = inl refl; finished = λ done. does.done refl };
   }
 
-  pub unit_fails : (fault : Fault) (reply : Reply) → DoesUnit opening old new (Err fault) → reply ≡ reply_to fault → Works opening old new (Some reply)
+  pub unit_fails : (fault : Fault) (reply : Reply) → DoesUnit opening old new (Err fault) → reply ≡ reply_to fault → DoesWork opening old new (Some reply)
   unit_fails fault reply does told = record {
     waits = does.waits;
     more = tt;

@@ -20,8 +20,8 @@ use Rattle.hm_core.specs.declared.ticket.UnitEnd.{UnitEnd}
 use Rattle.hm_core.specs.declared.ticket.UnitEnd.TheVariants.{Ended, More, Spent}
 
 -- the call that was opened by this id is open
-abbrev pub IsOpen : ℕ → CoreState → Type 0
-IsOpen opening core = IsSome (prune_with opening core.running)
+abbrev pub IsOpenPrune : ℕ → CoreState → Type 0
+IsOpenPrune opening core = IsSome (prune_with opening core.running)
 
 -- where the group of changed pages is full, a stage is made in place of a unit
 abbrev pub IsFull : CoreState → Type 0
@@ -58,13 +58,13 @@ pub record EndsWith (opening : ℕ) (old new : CoreState) (reply : Reply) : Type
   pub finished : reply ≡ Finished → (p : OpenPrune) → prune_with opening old.running ≡ Some p → EndsPrune p old new
 
 -- A unit was done, or a stage made in its place, and there is more to do; or the ending with this reply is due. Nothing was entered.
-pub record Works (opening : ℕ) (old new : CoreState) (result : Option Reply) : Type 0 where
+pub record DoesWork (opening : ℕ) (old new : CoreState) (result : Option Reply) : Type 0 where
   pub waits : Waits old new
   pub more : IfNone result (GoesOnByUnit old new)
   pub ends : IfSome result (EndsWith opening old new)
 
 -- the call is open no more, and each other one is; at least as many entries as before have room
-pub record Closes (opening : ℕ) (old new : CoreState) : Type 0 where
+pub record ClosesPrune (opening : ℕ) (old new : CoreState) : Type 0 where
   pub running : new.running ≡ prunes_beside opening old.running
   pub room : old.spare ≤ new.spare
 
@@ -74,7 +74,7 @@ pub record EndsJob (opening : ℕ) (old new : CoreState) : Type 0 where
   pub prune : OpenPrune
   pub found : prune_with opening old.running ≡ Some prune
   pub enters : Enters old new prune.lane prune.line old.last (End (record { 0 = opening }))
-  pub closes : Closes opening old new
+  pub closes : ClosesPrune opening old new
   pub tells : TellsEnd old new enters.entry.reply
   pub finished : enters.entry.reply ≡ Finished → EndsPrune prune old new
 
@@ -83,7 +83,7 @@ pub record SpendsJob (opening : ℕ) (old new : CoreState) : Type 0 where
   pub left : old.last ≡ GREATEST_ID
   pub history : new.history ≡ old.history
   pub last : new.last ≡ old.last
-  pub closes : Closes opening old new
+  pub closes : ClosesPrune opening old new
 
 -- What a unit of the call that was opened by this id came to.
 abbrev pub Units : ℕ → CoreState → CoreState → UnitEnd → Type 0

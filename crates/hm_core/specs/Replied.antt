@@ -91,7 +91,8 @@ TellsMedia old new NotFile = Unit {0}
 -- how many are free. Or it tells that the device failed in this call, or want of memory.
 pub record IsReplied (numbers faults faults' last : ℕ) (command : Command) (h : Heap) (root : ℕ) (reply : Reply) : Type 0 where
   pub media : TellsMedia faults faults' reply
-  pub due : IsAnswerable command → OnHeld h root last (λ es. (call : Call) → IsCall name_hash (last + 1) es call → AsksBeside command (told_beside numbers) es call
+  pub due : IsAnswerable command
+      → OnHeld h root last (λ es. (call : Call) → IsCall name_hash (last + 1) es call → AsksBeside command (told_beside numbers) es call
       → (reply ≡ due_over call (room_of h) (free_now h root)) ⊎ TellsFailure faults faults' reply)
   pub space : command ≡ Df → OnHeld h root last (λ _. (reply ≡ Space (h.bigblocks - first_pool h.bigblocks) (free_now h root))
       ⊎ TellsFailure faults faults' reply)

@@ -12,9 +12,9 @@ abbrev pub open_prunes : List Running → List OpenPrune
 open_prunes running = map open_prune running
 
 -- the place of the one with an opening id, or their number where it is none of them
-abbrev pub place_in : ℕ → List Running → ℕ
-place_in opening [] = 0
-place_in opening (r ∷ rs) = if r.opening.0 == opening then 0 else suc (place_in opening rs)
+abbrev pub place_among : ℕ → List Running → ℕ
+place_among opening [] = 0
+place_among opening (r ∷ rs) = if r.opening.0 == opening then 0 else suc (place_among opening rs)
 
 -- a fact of a call that opened a prune
 abbrev pub IfOpened : Answered → Type 0 → Type 0

@@ -13,9 +13,9 @@ use hm_types::{FULL_GROUP_PAGES, Fault, GREATEST_ID, Id};
 
 impl<D: Disk, I, O> Core<D, I, O> {
     ghost use Rattle.hm_core.specs.Core.{Follows, GoesOnOverEach, KeepsStreams, LeavesHeld};
-    ghost use Rattle.hm_core.specs.Jobs.{DoesUnit, IsOpen, UnitKeepsLive, Units, Works};
+    ghost use Rattle.hm_core.specs.Jobs.{DoesUnit, IsOpenPrune, UnitKeepsLive, Units, DoesWork};
     ghost use Rattle.hm_core.specs.Live.{CallKeepsLive};
-    ghost use Rattle.hm_core.specs.Running.{place_in};
+    ghost use Rattle.hm_core.specs.Running.{place_among};
     ghost use Rattle.hm_core.specs.Seen.{devices, seen};
 
     /// Does one unit of the call that a ticket names, which must be open; or makes one stage of a flush,
@@ -26,7 +26,7 @@ impl<D: Disk, I, O> Core<D, I, O> {
     /// dead for what the prune keeps. A unit or stage that fails ends the call too: its reply tells the
     /// fault, what that unit changed is dropped, and the units before it stand.
     pub fn job_unit(&mut self, ticket: Ticket) -> UnitEnd
-        requires runs { IsOpen ticket.opening.0 (seen self.old) }
+        requires runs { IsOpenPrune ticket.opening.0 (seen self.old) }
         ensures units { Units ticket.opening.0 (seen self.old) (seen self.new) result }
         ensures follows { Follows (D.left_since (devices self.old).disk) (D.left_since (devices self.new).disk)
             (seen self.old) (seen self.new) }
@@ -65,8 +65,8 @@ impl<D: Disk, I, O> Core<D, I, O> {
     // Does a unit, or makes a stage, and answers the reply of the ending that is due then. The core goes
     // on also as if no fault had been counted meanwhile: so the ending can tell one.
     fn work(&mut self, opening: Id) -> Option<Reply>
-        requires runs { IsOpen opening.0 (seen self.old) }
-        ensures works { Works opening.0 (seen self.old) (seen self.new) result }
+        requires runs { IsOpenPrune opening.0 (seen self.old) }
+        ensures works { DoesWork opening.0 (seen self.old) (seen self.new) result }
         ensures follows { Follows (D.left_since (devices self.old).disk) (D.left_since (devices self.new).disk)
             (seen self.old) (seen self.new) }
         ensures uncounted { GoesOnOverEach (D.left_since (devices self.old).disk) (D.left_since (devices self.new).disk)
@@ -92,7 +92,7 @@ impl<D: Disk, I, O> Core<D, I, O> {
 
     // Does a unit.
     fn do_unit(&mut self, opening: Id) -> Result<Progress, Fault>
-        requires runs { IsOpen opening.0 (seen self.old) }
+        requires runs { IsOpenPrune opening.0 (seen self.old) }
         ensures does { DoesUnit opening.0 (seen self.old) (seen self.new) result }
         ensures follows { Follows (D.left_since (devices self.old).disk) (D.left_since (devices self.new).disk)
             (seen self.old) (seen self.new) }
@@ -113,7 +113,7 @@ impl<D: Disk, I, O> Core<D, I, O> {
     // The place of the call with this opening id among those that are open, or their number where it is
     // none of them.
     fn place_of(&self, opening: Id) -> usize
-        ensures { result ≡ place_in opening.0 self.now.running.items }
+        ensures { result ≡ place_among opening.0 self.now.running.items }
     {
         let mut place = 0;
         while place < self.running.len() && self.running[place].opening != opening {

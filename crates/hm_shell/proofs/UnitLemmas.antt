@@ -4,7 +4,7 @@ use Rattle.std.specs.Prelude.{IsSome, List}
 use Rattle.hm_flush.specs.declared.flush.Flush.{Flush}
 use Rattle.hm_model.specs.declared.command.Command.TheVariants.{End}
 use Rattle.hm_core.specs.Core.{Enters, Waits}
-use Rattle.hm_core.specs.Jobs.{GoesOnByUnit, IsOpen, Units}
+use Rattle.hm_core.specs.Jobs.{GoesOnByUnit, IsOpenPrune, Units}
 use Rattle.hm_core.specs.State.{CoreState, OpenPrune, prune_with, prunes_beside}
 use Rattle.hm_core.specs.declared.ticket.Ticket.{Ticket}
 use Rattle.hm_core.specs.declared.ticket.UnitEnd.TheVariants.{Ended, More}
@@ -18,8 +18,8 @@ size_by_unit old new (inr unit) = ap (λ (f : Flush). f.header.bigblocks) unit.2
 
 -- A prune was opened by the one id, and its ticket has the other, which is the same.
 module _ (opening named : ℕ) (named_is : named ≡ opening) (old mid : CoreState) (waits : Waits old mid) where
-  pub open_still : IsOpen opening old → IsOpen named mid
-  open_still is = subst (λ (o : ℕ). IsOpen o mid) (sym named_is)
+  pub open_still : IsOpenPrune opening old → IsOpenPrune named mid
+  open_still is = subst (λ (o : ℕ). IsOpenPrune o mid) (sym named_is)
       (subst (λ (ps : List OpenPrune). IsSome (prune_with opening ps)) (sym waits.running) is)
 
   module _ (new : CoreState) where

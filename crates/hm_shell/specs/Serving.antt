@@ -14,7 +14,7 @@ use Rattle.hm_model.specs.Reply.{told_boundary}
 use Rattle.hm_core.specs.Core.{EndsAtOnce, Enters, Follows, IsCausedRun, OpensJob, Waits}
 use Rattle.hm_core.specs.Counts.{with_disk}
 use Rattle.hm_core.specs.Finished.{IsCommittedOn}
-use Rattle.hm_core.specs.Jobs.{Closes}
+use Rattle.hm_core.specs.Jobs.{ClosesPrune}
 use Rattle.hm_core.specs.Staged.{IsFlushed}
 use Rattle.hm_core.specs.State.{CoreState, OpenPrune, prune_with}
 use Rattle.hm_shell.specs.declared.serve.Called.{Called}
@@ -83,7 +83,7 @@ pub record EntersEnding (opening : ℕ) (old new : CoreState) : Type 0 where
   pub prune : OpenPrune
   pub found : prune_with opening old.running ≡ Some prune
   pub enters : Enters old new prune.lane prune.line old.last (End (record { 0 = opening }))
-  pub closes : Closes opening old new
+  pub closes : ClosesPrune opening old new
 
 -- its ending stands at this place of the history, or no id was left for it
 abbrev pub EndsOrLacks : ℕ → CoreState → CoreState → Option ℕ → Type 0

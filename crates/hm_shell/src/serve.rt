@@ -2,7 +2,7 @@
 ghost use Rattle.std.specs.Prelude.{◌≡◌, ◌*◌, ◌≤◌, [], IfErr, OnErr, OnOk, All, length};
 ghost use Rattle.hm_types.specs.declared.limits.TheConstants.{MOST_SCRIPT_LINES};
 ghost use Rattle.hm_core.specs.Core.{Follows, KeepsStreams};
-ghost use Rattle.hm_core.specs.Jobs.{IsOpen};
+ghost use Rattle.hm_core.specs.Jobs.{IsOpenPrune};
 ghost use Rattle.hm_core.specs.Seen.{devices as devices_of, seen as seen_core};
 ghost use Rattle.hm_core.specs.Served.{IsAsked};
 ghost use Rattle.hm_shell.specs.Lines.{NumbersRise, IsServedLine};
@@ -164,7 +164,7 @@ fn end_prune<W: Wait, D: Disk, I, O>(
     core: &mut Core<D, I, O>,
     ticket: Ticket,
 ) -> Option<usize>
-    requires open { IsOpen ticket.opening.0 (seen_core core.old) }
+    requires open { IsOpenPrune ticket.opening.0 (seen_core core.old) }
     ensures ends { EndsOrLacks ticket.opening.0 (seen_core core.old) (seen_core core.new) result }
     ensures follows { Follows (D.left_since (devices_of core.old).disk)
         (D.left_since (devices_of core.new).disk) (seen_core core.old) (seen_core core.new) }

@@ -18,7 +18,9 @@ use Rattle.hm_model.specs.Walk.{Follow, Follows, Stays, TakesPfs}
 use Rattle.hm_model.specs.declared.command.Command.{Command}
 use Rattle.hm_model.specs.declared.command.Command.TheVariants.{Cat, Fill, Prune, PruneAll, PfsMaster, PfsSlave, PfsStatus, Truncate, Write, Ln, Ls, Mkdir, Mv, Readlink, Rm, Rmdir, Snapshot, Stat, Symlink, Touch}
 use Rattle.hm_model.specs.declared.reply.Reply.{Reply}
-use Rattle.hm_model.specs.declared.reply.Reply.TheVariants.{Content as Bytes, Done, Listing, MadePfs, NoSnapshots, PfsFull, Status, Target as Text, TooManyIntervals, CrossPfs, Exists, HashFull, IntoItself, IsDir, NotEmpty, NotFile, NotLink, TooBig, NoSpace, NotDir, NotFound, NotRetained, ReadOnly}
+use Rattle.hm_model.specs.declared.reply.Reply.TheVariants.{Content as Bytes, Done, Listing, MadePfs, NoSnapshots, PfsFull, Status, Target as Text}
+use Rattle.hm_model.specs.declared.reply.Reply.TheVariants.{TooManyIntervals, CrossPfs, Exists, HashFull, IntoItself, IsDir, NotEmpty, NotFile}
+use Rattle.hm_model.specs.declared.reply.Reply.TheVariants.{NotLink, TooBig, NoSpace, NotDir, NotFound, NotRetained, ReadOnly}
 use Rattle.std.proofs.lemmas.Bool.Decides.{nat_tests}
 use Rattle.hm_model.proofs.CheckLemmas.{no_first, no_rest}
 use Rattle.hm_model.proofs.DueLemmas.{of_option}

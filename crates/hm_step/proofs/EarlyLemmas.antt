@@ -11,7 +11,8 @@ use Rattle.hm_model.specs.Due.{Check, early_checks, first_refusal, good_path, go
 use Rattle.hm_model.specs.Reply.{told_boundary}
 use Rattle.hm_model.specs.Sites.{BadAt, Parsed, Parts, ReadsWords, Use, uses_of}
 use Rattle.hm_model.specs.declared.command.Command.{Command}
-use Rattle.hm_model.specs.declared.command.Command.TheVariants.{Cat, Fill, Truncate, Write, Ln, Ls, Mkdir, Mv, Readlink, Rm, Rmdir, Snapshot, Stat, Symlink, Touch, PfsMaster, PfsSlave, PfsStatus, Prune, PruneAll}
+use Rattle.hm_model.specs.declared.command.Command.TheVariants.{Cat, Fill, Truncate, Write, Ln, Ls, Mkdir, Mv, Readlink, Rm, Rmdir, Snapshot, Stat}
+use Rattle.hm_model.specs.declared.command.Command.TheVariants.{Symlink, Touch, PfsMaster, PfsSlave, PfsStatus, Prune, PruneAll}
 use Rattle.hm_model.specs.declared.reply.Reply.{Reply}
 use Rattle.hm_model.specs.declared.reply.Reply.TheVariants.{BadPath, Busy, Cut, Damaged, Future, Media, Passed, ReadOnly, StreamFault, Synced}
 use Rattle.hm_model.proofs.DueLemmas.{of_test}

@@ -4,7 +4,8 @@ use Rattle.std.specs.Prelude.{◌&&◌, Option, None, if◌then◌else◌}
 use Rattle.std.specs.Option.{option_map_or}
 use Rattle.hm_types.specs.Hash.{name_hash}
 use Rattle.hm_types.specs.declared.id.Id.{Id}
-use Rattle.hm_model.specs.After.{Event, State, accepted_effect, accepted_effect_of, after_event, call_of, end_id, ended, first_pfs, last_after, no_hash, of_pfs, on_volume, opened_with_change, with_opened}
+use Rattle.hm_model.specs.After.{Event, State, accepted_effect, accepted_effect_of, after_event, call_of, end_id, ended, first_pfs, last_after}
+use Rattle.hm_model.specs.After.{no_hash, of_pfs, on_volume, opened_with_change, with_opened}
 use Rattle.hm_model.specs.Call.{Call, own_id}
 use Rattle.hm_model.specs.Change.{change}
 use Rattle.hm_model.specs.Command.{named_opening}
@@ -12,7 +13,8 @@ use Rattle.hm_model.specs.Due.{is_tree_call}
 use Rattle.hm_model.specs.Foreign.{no_feed}
 use Rattle.hm_model.specs.Reply.{is_refusal, passed_ids}
 use Rattle.hm_model.specs.declared.command.Command.{Command}
-use Rattle.hm_model.specs.declared.command.Command.TheVariants.{Cat, Fill, Ln, Ls, Mkdir, Mv, Readlink, Rm, Rmdir, Snapshot, Stat, Symlink, Touch, Truncate, Write, PfsMaster, PfsSlave, PfsStatus, Prune, PruneAll}
+use Rattle.hm_model.specs.declared.command.Command.TheVariants.{Cat, Fill, Ln, Ls, Mkdir, Mv, Readlink, Rm, Rmdir, Snapshot, Stat, Symlink, Touch}
+use Rattle.hm_model.specs.declared.command.Command.TheVariants.{Truncate, Write, PfsMaster, PfsSlave, PfsStatus, Prune, PruneAll}
 use Rattle.hm_model.specs.declared.reply.Reply.{Reply}
 use Rattle.hm_step.specs.Step.{after_call, drawn}
 use Rattle.hm_calls.specs.Answered.{IsAnswerable, is_prune}

@@ -7,7 +7,8 @@ use Rattle.hm_model.specs.Caused.{IsPossible, number_of, on_a_read, possible}
 use Rattle.hm_model.specs.Due.{Check, refuse_if}
 use Rattle.hm_model.specs.Sites.{Parsed}
 use Rattle.hm_model.specs.declared.command.Command.{Command}
-use Rattle.hm_model.specs.declared.command.Command.TheVariants.{Cat, Fill, Truncate, Write, Ln, Ls, Mkdir, Mv, Readlink, Rm, Rmdir, Snapshot, Stat, Symlink, Touch, PfsMaster, PfsSlave, PfsStatus, Prune, PruneAll}
+use Rattle.hm_model.specs.declared.command.Command.TheVariants.{Cat, Fill, Truncate, Write, Ln, Ls, Mkdir, Mv, Readlink, Rm, Rmdir, Snapshot, Stat}
+use Rattle.hm_model.specs.declared.command.Command.TheVariants.{Symlink, Touch, PfsMaster, PfsSlave, PfsStatus, Prune, PruneAll}
 use Rattle.hm_model.specs.declared.reply.Reply.{Reply}
 use Rattle.hm_model.specs.declared.reply.Reply.TheVariants.{Cut, Damaged, Media, NoMemory, Passed, StreamFault, Synced}
 use Rattle.hm_model.proofs.DueLemmas.{of_option}

@@ -11,7 +11,8 @@ use Rattle.hm_model.specs.Sites.{At, IsParsed, Located, MakesName, Nowhere, Pars
 use Rattle.hm_model.specs.Volume.{Master, PseudoFileSystem, Role, Slave, Volume, system_of}
 use Rattle.hm_model.specs.Walk.{Follows, Stays}
 use Rattle.hm_model.specs.declared.command.Command.{Command}
-use Rattle.hm_model.specs.declared.command.Command.TheVariants.{Cat, Fill, Ln, Ls, Mkdir, Mv, PfsMaster, PfsSlave, PfsStatus, Prune, PruneAll, Readlink, Rm, Rmdir, Snapshot, Stat, Symlink, Touch, Truncate, Write}
+use Rattle.hm_model.specs.declared.command.Command.TheVariants.{Cat, Fill, Ln, Ls, Mkdir, Mv, PfsMaster, PfsSlave, PfsStatus, Prune, PruneAll}
+use Rattle.hm_model.specs.declared.command.Command.TheVariants.{Readlink, Rm, Rmdir, Snapshot, Stat, Symlink, Touch, Truncate, Write}
 use Rattle.hm_model.specs.declared.reply.Reply.TheVariants.{ReadOnly}
 use Rattle.hm_model.proofs.CheckLemmas.{no_first, no_rest}
 use Rattle.hm_model.proofs.EffectLemmas.{or_false}

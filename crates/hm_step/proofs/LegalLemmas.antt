@@ -9,7 +9,8 @@ use Rattle.hm_model.specs.Due.{early_checks, first_refusal}
 use Rattle.hm_model.specs.Legal.{IsUndamaged, MayFollow, Setting, call_after, state_after}
 use Rattle.hm_model.specs.Reply.{is_refusal}
 use Rattle.hm_model.specs.declared.command.Command.{Command}
-use Rattle.hm_model.specs.declared.command.Command.TheVariants.{Cat, Fill, Ln, Ls, MirrorWrite, Mkdir, Mv, Readlink, Rm, Rmdir, Snapshot, Stat, Symlink, Touch, Truncate, Write, PfsMaster, PfsSlave, PfsStatus, Prune, PruneAll}
+use Rattle.hm_model.specs.declared.command.Command.TheVariants.{Cat, Fill, Ln, Ls, MirrorWrite, Mkdir, Mv, Readlink, Rm, Rmdir, Snapshot, Stat}
+use Rattle.hm_model.specs.declared.command.Command.TheVariants.{Symlink, Touch, Truncate, Write, PfsMaster, PfsSlave, PfsStatus, Prune, PruneAll}
 use Rattle.hm_model.specs.declared.reply.Reply.{Reply}
 use Rattle.hm_model.specs.declared.reply.Reply.TheVariants.{Damaged}
 use Rattle.hm_model.proofs.MadeLemmas.{last_known}

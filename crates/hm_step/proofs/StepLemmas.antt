@@ -31,7 +31,7 @@ use Rattle.hm_calls.specs.declared.new_systems.NewSystem.TheVariants.{Master, Sl
 use Rattle.hm_calls.specs.declared.pruning.Pruning.{Pruning}
 use Rattle.hm_calls.specs.declared.pruning.Pruning.TheVariants.{Present, Snapshots}
 use Rattle.hm_calls.proofs.AnsweredLemmas.{KindOf, kind_of, makes, no_effect, on_trees, on_trees_do, on_trees_no_prune, opens, tells}
-use Rattle.hm_step.specs.Next.{LeadsTo, opened_after}
+use Rattle.hm_step.specs.Next.{IsLedIfOpened, opened_after}
 use Rattle.hm_step.specs.Pruned.{StillKeeps}
 use Rattle.hm_step.specs.Served.{IsServed}
 use Rattle.hm_step.specs.Step.{AreHeld, after_call}
@@ -91,7 +91,7 @@ pub record Leaves (es' : List FullElement) (state after : State) (call : Call) (
   pub stands : AreHeld es' → StandFor es' after.volume
   pub jobs : StillKeeps state.volume after.volume
   pub opened : after.opened ≡ opened_after state call answered
-  pub leads : LeadsTo after.volume answered
+  pub leads : IsLedIfOpened after.volume answered
 
 module _ (state : State) (event : Event) (room : ℕ → ℕ) (free : ℕ) (es es' : List FullElement) (answered : Answered)
     (stand : StandFor es state.volume) (shows : ShowsAs es state.volume (call_of name_hash state event).view)
@@ -110,12 +110,12 @@ module _ (state : State) (event : Event) (room : ℕ → ℕ) (free : ℕ) (es e
   closed (Replied reply) form none = refl
   closed (Opened led) form none = absurd (false≢true (sym none ∙ form))
 
-  leads_none : (a : Answered) (volume : Volume) → IsFormOf call.command a → is_prune call.command ≡ false → LeadsTo volume a
+  leads_none : (a : Answered) (volume : Volume) → IsFormOf call.command a → is_prune call.command ≡ false → IsLedIfOpened volume a
   leads_none (Replied reply) volume form none = tt
   leads_none (Opened led) volume form none = absurd (false≢true (sym none ∙ form))
 
   -- what is answered without an effect draws an id alone
-  leaves_same : es' ≡ es → state.opened ≡ opened_after state call answered → ((volume : Volume) → LeadsTo volume answered)
+  leaves_same : es' ≡ es → state.opened ≡ opened_after state call answered → ((volume : Volume) → IsLedIfOpened volume answered)
       → Leaving (on_volume state (after_call false call))
   leaves_same same none leads =
       let next = after_next es state.volume stand left in
@@ -134,7 +134,7 @@ module _ (state : State) (event : Event) (room : ℕ → ℕ) (free : ℕ) (es e
       refuses_so : is_refusal (reply_in answered) ≡ true
       refuses_so = ap is_refusal (sym reply_is) ∙ refuses
 
-      by : (a : Answered) → is_refusal (reply_in a) ≡ true → (state.opened ≡ opened_after state call a) × ((volume : Volume) → LeadsTo volume a)
+      by : (a : Answered) → is_refusal (reply_in a) ≡ true → (state.opened ≡ opened_after state call a) × ((volume : Volume) → IsLedIfOpened volume a)
       by (Replied reply) is = (refl, λ volume. tt)
       by (Opened led) is = absurd (false≢true is)
 

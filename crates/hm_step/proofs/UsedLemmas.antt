@@ -5,7 +5,9 @@ use Rattle.std.specs.Option.{option_map_or}
 use Rattle.std.proofs.lemmas.Bool.{cases_lt}
 use Rattle.hm_types.specs.declared.id.Id.{Id}
 use Rattle.hm_types.specs.declared.id.Pfs.{Pfs}
-use Rattle.hm_model.specs.After.{Event, OpenCall, State, accepted_effect, after_event, after_pass, call_of, effect, end_effect, end_effect_of, end_of_pass, end_of_upgrade, end_of_write, fed_from, given_in, no_hash, nothing_merged, of_pfs, on_volume, opened_with, opening_state, origin_of, present_only, retaining, stream_origin, next_stream, upgraded, with_origin}
+use Rattle.hm_model.specs.After.{Event, OpenCall, State, accepted_effect, after_event, after_pass, call_of, effect, end_effect, end_effect_of}
+use Rattle.hm_model.specs.After.{end_of_pass, end_of_upgrade, end_of_write, fed_from, given_in, no_hash, nothing_merged, of_pfs, on_volume}
+use Rattle.hm_model.specs.After.{opened_with, opening_state, origin_of, present_only, retaining, stream_origin, next_stream, upgraded, with_origin}
 use Rattle.hm_model.specs.Call.{Call, first_site, own_id, second_site}
 use Rattle.hm_model.specs.Change.{change, changed, changed_pfs, new_slave}
 use Rattle.hm_model.specs.Cut.{pruned}

@@ -61,9 +61,9 @@ pub record IsLed (volume : Volume) (led : Led) : Type 0 where
       → ((other : ℕ) → other ≢ led.pfs.0 → kept other ≡ None) → KeepsEnough kept volume
 
 -- so did a call, if it was opened
-abbrev pub LeadsTo : Volume → Answered → Type 0
-LeadsTo volume (Replied reply) = Unit {0}
-LeadsTo volume (Opened led) = IsLed volume led
+abbrev pub IsLedIfOpened : Volume → Answered → Type 0
+IsLedIfOpened volume (Replied reply) = Unit {0}
+IsLedIfOpened volume (Opened led) = IsLed volume led
 
 -- The event goes on from a history: what the store holds afterwards stands for the volume after it, what a job keeps is
 -- enough still, an opening that was accepted is open and led to what the volume keeps, and the event may follow the others,
@@ -75,7 +75,7 @@ pub record GoesOn (run : Setting) (before : List Event) (event : Event) (answere
   pub jobs : StillKeeps (state_after run before).volume (state_after run (before ++ event ∷ [])).volume
   pub opened : (state_after run (before ++ event ∷ [])).opened
       ≡ opened_after (state_after run before) (call_after run before event) answered
-  pub leads : LeadsTo (state_after run (before ++ event ∷ [])).volume answered
+  pub leads : IsLedIfOpened (state_after run (before ++ event ∷ [])).volume answered
   pub follows : MayFollow run before event
   pub allowed : IsAllowed run before event
 

@@ -33,7 +33,7 @@ ghost use Rattle.hm_calls.specs.declared.answered.Answered.{Answered};
 ghost use Rattle.hm_pfs.specs.Systems.{AddsMaster, AddsSlave, IsUnusedNumber, made_record, slave_record};
 ghost use Rattle.hm_step.specs.Causes.{IsNextOf, TellsFault};
 ghost use Rattle.hm_step.specs.Cut.{IsCutTo, SetsRecordBy};
-ghost use Rattle.hm_step.specs.Next.{LeadsTo, UsedBelow, opened_after};
+ghost use Rattle.hm_step.specs.Next.{IsLedIfOpened, UsedBelow, opened_after};
 ghost use Rattle.hm_step.specs.Pruned.{KeepsEnough, KeepsWithin, StandAfter, StillKeeps};
 ghost use Rattle.hm_step.specs.Seen.{AreGiven};
 ghost use Rattle.hm_step.specs.Served.{IsServed};
@@ -175,7 +175,7 @@ pub fn a_served_call_is_a_step()
         (es es' : List FullElement) (answered : Answered) → IsNext run before event free es →
         event.entry.reply ≡ reply_in answered →
         IsServed (call_after run before event) room free es es' answered →
-        LeadsTo (state_after run (before ++ event ∷ [])).volume answered }
+        IsLedIfOpened (state_after run (before ++ event ∷ [])).volume answered }
     ensures follows { (run : Setting) (before : List Event) (event : Event) (room : ℕ → ℕ) (free : ℕ)
         (es es' : List FullElement) (answered : Answered) → IsNext run before event free es →
         event.entry.reply ≡ reply_in answered →
