@@ -1,5 +1,5 @@
 -- Which numbers of replies a call can give.
-use Rattle.std.proofs.Common.{◌≡◌, ℕ, Bool, true, false, List, [], ◌∷◌, None, Some, inl, inr, sym, subst, refl, arith}
+use Rattle.std.proofs.Common.{◌≡◌, ℕ, Bool, true, false, List, [], ◌∷◌, None, Some, sym, subst, refl, arith}
 use Rattle.std.specs.Prelude.{if◌then◌else◌}
 use Rattle.std.specs.Bool.{nat_lt}
 use Rattle.std.specs.List.{Contains, list_any}
@@ -10,13 +10,13 @@ use Rattle.hm_model.specs.Due.{Check, fits_file, good_path, has_id, has_its_name
 use Rattle.hm_model.specs.Sites.{BadAt, Parsed, Parts, Use}
 use Rattle.hm_model.specs.declared.command.Command.{Command}
 use Rattle.hm_model.specs.declared.reply.Reply.{Reply}
-use Rattle.hm_model.specs.declared.reply.Reply.TheVariants.{BadPath, Exists, Future, HashFull, NoSpace, NotDir, NotFound, NotRetained, ReadOnly, TooBig}
+use Rattle.hm_model.specs.declared.reply.Reply.TheVariants.{BadPath, Future, NoSpace, NotDir, NotFound, NotRetained, ReadOnly, TooBig}
 use Rattle.hm_model.proofs.DueLemmas.{of_test}
 use Rattle.hm_records.proofs.MemberLemmas.{has_tail}
 use Rattle.hm_calls.specs.Edits.{command_for, end_of}
 use Rattle.hm_calls.specs.New.{command_by}
 use Rattle.hm_calls.specs.Places.{IsBadPath}
-use Rattle.hm_calls.specs.Possible.{IsLost, IsNoSpace, IsOwn, RefusesBeside, RefusesOver}
+use Rattle.hm_calls.specs.Possible.{IsLost, IsNoSpace, IsOwn}
 use Rattle.hm_calls.specs.declared.edit.Edit.{Edit}
 use Rattle.hm_calls.specs.declared.edit.Edit.TheVariants.{Fill, Truncate, Write}
 use Rattle.hm_calls.specs.declared.new.New.{New}
@@ -40,15 +40,6 @@ space_among numbers lacks other is = absurd is
 pub one_among : (numbers : List ℕ) (refusal : Reply) → IsOwn refusal → Contains numbers (number_of refusal) → (reply : Reply) → reply ≡ refusal
     → IsAmong numbers reply
 one_among numbers refusal own has reply is = subst (IsAmong numbers) (sym is) (record { own = own; listed = has })
-
--- the refusals of a move to a name that is not there yet, and of one to a name that leads to an object
-pub beside_among : (numbers : List ℕ) → Contains numbers 13 → Contains numbers 20 → (reply : Reply) → RefusesBeside reply → IsAmong numbers reply
-beside_among numbers full lacks reply (inl is) = one_among numbers HashFull tt full reply is
-beside_among numbers full lacks reply (inr is) = space_among numbers lacks reply is
-
-pub over_among : (numbers : List ℕ) → Contains numbers 1 → Contains numbers 20 → (reply : Reply) → RefusesOver reply → IsAmong numbers reply
-over_among numbers there lacks reply (inl is) = one_among numbers Exists tt there reply is
-over_among numbers there lacks reply (inr is) = space_among numbers lacks reply is
 
 -- ---- the refusals of the early checks
 

@@ -92,6 +92,11 @@ eqb_sym a b = by_test (a == b) (b == a) refl refl where
   by_test true false one two = absurd (false≢true (sym two ∙ eq-eqb b a (sym (eqb-true a b one))))
   by_test false true one two = absurd (false≢true (sym one ∙ eq-eqb a b (sym (eqb-true b a two))))
 
+-- nothing gives way
+pub nothing_gives : (moved : Option Inode) (same : Bool) → gives_way_by moved None same ≡ false
+nothing_gives None same = refl
+nothing_gives (Some moved) same = refl
+
 -- whether an object gives way is told by its inode and that of the moved one
 pub way_is : (scene : Scene) (call : Call) (stand : Stand) (there : ℕ) (o : Option Object) (i : Option Inode) → IsRead scene stand
     → IsFoundBy (Counts scene.elements stand.as_of.0) stand.at.pfs.0 o i → IfSome o (λ found. found.number.0 ≡ there)

@@ -25,16 +25,11 @@ pub mod MadeLemmas
 pub mod FrontLemmas
 pub mod LinkLemmas
 pub mod LinkCallLemmas
-pub mod ReachLemmas
 pub mod AnswerLemmas
 pub mod MoveLemmas
-pub mod MoveStepLemmas
-pub mod MoveCallLemmas
-pub mod MoveEndLemmas
-pub mod MoveTailLemmas
-pub mod MoveOverLemmas
+pub mod ReachLemmas
+mod MoveStageLemmas
 pub mod KnownLemmas
-pub mod MoveBesideLemmas
 pub mod GivenLemmas
 pub mod MayReplyLemmas
 pub mod SystemLemmas

@@ -38,16 +38,14 @@ use Rattle.hm_calls.specs.Places.{IsPlaced, IsReached, refuse_kind}
 use Rattle.hm_calls.specs.Scenes.{InScenes, is_slave}
 use Rattle.hm_calls.specs.Stages.{AnswersAll, last_checks, word_checks}
 use Rattle.hm_calls.specs.Writes.{PutsLink, place_in}
-use Rattle.hm_calls.specs.Stop.{Answers, Decides}
+use Rattle.hm_calls.specs.Stop.{Answers}
 use Rattle.hm_calls.specs.declared.links.Linked.{Linked}
 use Rattle.hm_calls.specs.declared.stages.NewName.{NewName}
 use Rattle.hm_calls.specs.declared.stop.Stop.{Stop}
-use Rattle.hm_calls.specs.declared.stop.Stop.TheVariants.{Failed, Refused}
 use Rattle.hm_calls.proofs.LinkLemmas.{ln_changes, ln_checks, ln_file, ln_unchanged, paths_linked}
 use Rattle.hm_calls.proofs.FrontLemmas.{IsAsked, back_in, back_over, both_in, map_in, on_in, passed_before, passed_fourth, second_none}
 use Rattle.hm_calls.proofs.MakeLemmas.{IsNewPlace, full_check, new_check, new_place, new_place_there, new_view, not_named, tree_at}
 use Rattle.hm_calls.proofs.PlaceLemmas.{front_has_none}
-use Rattle.hm_calls.proofs.RefusalLemmas.{refuse_first, refuse_second}
 use Rattle.hm_calls.proofs.RemoveLemmas.{master_check}
 use Rattle.hm_calls.proofs.SceneLemmas.{IsEnd, IsPlace, IsStoppedBy, OnScenes, call_in, scenes_back, scenes_both, scenes_named}
 use Rattle.hm_calls.proofs.SceneLemmas.{scenes_placed, scenes_reached, scenes_so, scenes_unplaced, scenes_unreached}
@@ -114,20 +112,6 @@ module _ (hash : List ℕ → ℕ) (course : Course) (es es' : Option (List Elem
         (subst (λ (ps : List Part). IsPlace scene name (in_directory scene.view (Some name) (walk scene.volume scene.view Follows ps)) stand) front_is is))
         (scenes_placed hash course es' xs' front drawn name stand told))
 
--- whichever id it is read as of
-pub placed_there : (hash : List ℕ → ℕ) (course : Course) (es : Option (List Element)) (xs : Option (List Extent)) (more : List Part) (name : List ℕ)
-    (directory there : Stand) → there ≡ record directory { as_of = course.last } → OnScenes hash es xs course (λ scene. IsNewPlace scene more name directory)
-    → OnScenes hash es xs course (λ scene. IsNewPlace scene more name there)
-placed_there hash course es xs more name directory there is places =
-    scenes_so hash course es xs (λ scene. IsNewPlace scene more name directory) (λ scene. IsNewPlace scene more name there)
-    (λ scene set place. new_place_there scene more name directory there course is place) places
-
-pub master_there : (hash : List ℕ → ℕ) (course : Course) (es : Option (List Element)) (xs : Option (List Extent)) (directory there : Stand)
-    → there ≡ record directory { as_of = course.last } → OnScenes hash es xs course (λ scene. master_check scene directory.at.pfs.0 ≡ None)
-    → OnScenes hash es xs course (λ scene. master_check scene there.at.pfs.0 ≡ None)
-master_there hash course es xs directory there is masters =
-    subst (λ (s : Stand). OnScenes hash es xs course (λ scene. master_check scene s.at.pfs.0 ≡ None)) (sym is) masters
-
 -- the walk to an object's name, in a store that is at its start
 pub object_unreached : (hash : List ℕ → ℕ) (course : Course) (es : Option (List Element)) (xs : Option (List Extent)) (parts : List Part)
     → has_id (Parts parts) ≡ false → (stopped : Stop)
@@ -142,18 +126,6 @@ pub object_reached : (hash : List ℕ → ℕ) (course : Course) (es : Option (L
     → IsReached scene Stays (walk scene.volume scene.view Stays parts) (Ok stand))
     → OnScenes hash es xs course (λ scene. IsEnd scene Stays (walk scene.volume scene.view Stays parts) stand)
 object_reached hash course es xs parts none = scenes_reached hash course es xs parts (drawn_now course.last parts none) Stays
-
--- the paths of a call that changes a tree have no ids
-pub first_past : (one two : Parsed) (stopped : Stop) → Decides {T = Unit {0}} (refuse_if (has_id one) ReadOnly) (Err stopped)
-    → IsStoppedBy (refuse_if (has_id one || (has_id two || false)) ReadOnly) stopped
-first_past one two (Refused reply) told = refuse_first (has_id one) (has_id two) ReadOnly reply told
-first_past one two (Failed fault) told = tt
-
-pub second_past : (one two : Parsed) (stopped : Stop) → refuse_if (has_id one) ReadOnly ≡ None
-    → Decides {T = Unit {0}} (refuse_if (has_id two) ReadOnly) (Err stopped)
-    → IsStoppedBy (refuse_if (has_id one || (has_id two || false)) ReadOnly) stopped
-second_past one two (Refused reply) none told = refuse_second (has_id one) (has_id two) ReadOnly (Some reply) none told
-second_past one two (Failed fault) none told = tt
 
 -- ---- nothing is written
 
@@ -175,7 +147,7 @@ module _ (hash : List ℕ → ℕ) (course : Course) (es : Option (List Element)
   OnTrees P = OnNamed hash es xs (λ lists. (tree : FileTree) → IsViewOf (fulls lists) found.directory.at.pfs.0 found.directory.as_of.0 tree
       → P (fulls lists) tree)
 
-  in_tree : (P : List FullElement → FileTree → Type 0) → OnTrees P → InScenes hash course es xs (AreSeen found)
+  pub in_tree : (P : List FullElement → FileTree → Type 0) → OnTrees P → InScenes hash course es xs (AreSeen found)
       → InScenes hash course es xs (λ scene. P scene.elements (tree_at scene found.directory))
   in_tree P told seen =
       map_in {P = λ scene. AreSeen found scene

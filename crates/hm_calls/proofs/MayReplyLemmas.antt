@@ -1,8 +1,7 @@
 -- A reply that a call may have by its words, from what its steps tell.
-use Rattle.std.proofs.Common.{◌≡◌, ℕ, ◌+◌, ◌-◌, List, [], ◌∷◌, Bool, true, false, Option, Some, None, Result, Ok, Err, refl, sym, subst, ◌∙◌, inl, arith}
+use Rattle.std.proofs.Common.{◌≡◌, ℕ, ◌+◌, ◌-◌, List, [], ◌∷◌, Bool, true, false, Option, Some, None, Result, Ok, Err, refl, sym, subst, inl, arith}
 use Rattle.std.specs.Prelude.{if◌then◌else◌}
 use Rattle.std.specs.List.{AllZip, Contains}
-use Rattle.std.proofs.lemmas.Bool.{false≢true}
 use Rattle.hm_path.specs.declared.part.Part.{Part}
 use Rattle.hm_path.specs.Path.{IsPath}
 use Rattle.hm_model.specs.Caused.{IsPossible, number_of, possible}
@@ -29,9 +28,9 @@ use Rattle.hm_calls.specs.declared.stop.Stop.TheVariants.{Failed, Refused}
 use Rattle.hm_calls.proofs.GivenLemmas.{IsAmong, RefusesOwn, bad_own, future_own, good_own, lost_among, one_among, past_own, refusal_own, space_among}
 use Rattle.hm_calls.proofs.MakeLemmas.{make_past}
 use Rattle.hm_calls.proofs.PlaceLemmas.{front_has_none}
-use Rattle.hm_calls.proofs.RefusalLemmas.{AsRead, IsFirst, PassBoth, PassEarly, all_pass, bad_once, pass, read_one, read_two, refuse_second, stop}
+use Rattle.hm_calls.proofs.RefusalLemmas.{AsRead, IsFirst, PassEarly, all_pass, bad_once, pass, read_one, read_two, stop}
 use Rattle.hm_calls.proofs.SceneLemmas.{IsStoppedBy}
-use Rattle.hm_calls.proofs.StageLemmas.{good_named, good_new, no_ids}
+use Rattle.hm_calls.proofs.StageLemmas.{good_new, no_ids}
 
 -- ---- the early checks of a list
 
@@ -204,81 +203,6 @@ module _ (id : ℕ) (command : Command) (u v : Use) (word other : List ℕ) (ask
         refused_first (early_two (id - 1) command u v (Parts parts) next) (possible command (Parts parts ∷ next ∷ [])) reply
         (pass refl (pass good (stop (bad_once v other reply next bad reads))))))
 
-    module _ (course : Course) (before : course.last.0 + 1 ≡ id) (more : List Part) (more_is : IsPath other more) where
-      abbrev early_both : List Check
-      early_both = early_two course.last.0 command u v (Parts parts) (Parts more)
-
-      abbrev pub numbers_both : List ℕ
-      numbers_both = possible command (Parts parts ∷ Parts more ∷ [])
-
-      by_both : (reply : Reply) → IsOwn reply → IsPossible (first_refusal early_both) numbers_both reply → IsGiven id command reply
-      by_both reply own is =
-          by_first reply own (λ next reads.
-          subst (λ (p : Parsed). IsPossible (first_refusal (early_two (id - 1) command u v (Parts parts) p)) (possible command (Parts parts ∷ p ∷ [])) reply)
-          (sym (read_once other more next more_is reads))
-          (subst (λ (last : ℕ). IsPossible (first_refusal (early_two last command u v (Parts parts) (Parts more))) numbers_both reply)
-          (omega (arith, before)) is))
-
-      early_stops : (check : Check) → RefusesOwn check → ((reply : Reply) → check ≡ Some reply → IsFirst early_both (Some reply))
-          → (result : Result Reply Stop) (stopped : Stop) → result ≡ Err stopped → IsStoppedBy check stopped → Gives id command result
-      early_stops check own first =
-          stopped_given id command (λ reply. check ≡ Some reply)
-          (λ reply is. by_both reply (refusal_own check own reply is) (refused_first early_both numbers_both reply (first reply is)))
-
-      module _ (good : good_path u (Parts parts) ≡ None) where
-        pub second_name_gives : (result : Result Reply Stop) (stopped : Stop) → result ≡ Err stopped → IsStoppedBy (good_path v (Parts more)) stopped
-            → Gives id command result
-        second_name_gives = early_stops (good_path v (Parts more)) (good_own v (Parts more)) (λ reply is. pass refl (pass good (stop is)))
-
-        module _ (fine : good_path v (Parts more) ≡ None) where
-          pub first_future_gives : (result : Result Reply Stop) (stopped : Stop) → result ≡ Err stopped
-              → IsStoppedBy (no_future course.last.0 (Parts parts)) stopped → Gives id command result
-          first_future_gives =
-              early_stops (no_future course.last.0 (Parts parts)) (future_own course.last.0 (Parts parts))
-              (λ reply is. pass refl (pass good (pass fine (stop is))))
-
-          pub second_future_gives : no_future course.last.0 (Parts parts) ≡ None → (result : Result Reply Stop) (stopped : Stop) → result ≡ Err stopped
-              → IsStoppedBy (no_future course.last.0 (Parts more)) stopped → Gives id command result
-          second_future_gives future =
-              early_stops (no_future course.last.0 (Parts more)) (future_own course.last.0 (Parts more))
-              (λ reply is. pass refl (pass good (pass fine (pass future (stop is)))))
-
-          pub both_past_gives : no_future course.last.0 (Parts parts) ≡ None → no_future course.last.0 (Parts more) ≡ None
-              → (result : Result Reply Stop) (stopped : Stop) → result ≡ Err stopped
-              → IsStoppedBy (past_stays command (Parts parts ∷ Parts more ∷ [])) stopped → Gives id command result
-          both_past_gives future next =
-              early_stops (past_stays command (Parts parts ∷ Parts more ∷ [])) (past_own command (Parts parts ∷ Parts more ∷ []))
-              (λ reply is. pass refl (pass good (pass fine (pass future (pass next (pass refl (stop is)))))))
-
-      module _ (early : PassBoth command u v course.last.0 parts more) where
-        after : (reply : Reply) → IsAmong numbers_both reply → IsGiven id command reply
-        after reply has =
-            by_both reply has.own (passed_first early_both numbers_both reply (pass refl (pass early.good (pass early.fine (pass early.future (pass early.later
-            (pass refl (pass early.past all_pass))))))) has)
-
-        -- a later step refuses: by some refusals, by one, by those of a walk, and for want of space
-        pub after_gives : (P : Reply → Type 0) → ((reply : Reply) → P reply → IsAmong numbers_both reply)
-            → (result : Result Reply Stop) (stopped : Stop) → result ≡ Err stopped → OfRefusal P stopped → Gives id command result
-        after_gives P each = stopped_given id command P (λ reply refuses. after reply (each reply refuses))
-
-        pub one_after : (refusal : Reply) → IsOwn refusal → Contains numbers_both (number_of refusal)
-            → (result : Result Reply Stop) (stopped : Stop) → result ≡ Err stopped
-            → OfRefusal (λ reply. reply ≡ refusal) stopped → Gives id command result
-        one_after refusal own has = after_gives (λ reply. reply ≡ refusal) (one_among numbers_both refusal own has)
-
-        pub lost_after : (ids : Bool) → ids ≡ false → Contains numbers_both 2 → Contains numbers_both 3
-            → (result : Result Reply Stop) (stopped : Stop) → result ≡ Err stopped → OfRefusal (IsLost ids) stopped → Gives id command result
-        lost_after ids none lost no_directory =
-            after_gives (IsLost ids) (lost_among numbers_both ids lost no_directory (λ some. absurd (false≢true (sym none ∙ some))))
-
-        pub space_after : Contains numbers_both 20 → (result : Result Reply Stop) (stopped : Stop) → result ≡ Err stopped
-            → OfRefusal IsNoSpace stopped → Gives id command result
-        space_after lacks = after_gives IsNoSpace (space_among numbers_both lacks)
-
-        -- the reply at the end
-        pub end_after : (reply : Reply) → IsOwn reply → Contains numbers_both (number_of reply) → Gives id command (Ok reply)
-        end_after reply own has = after reply (record { own = own; listed = has })
-
 -- one that is refused unless a test holds
 pub unless_told : (T : Type 0) (test : Bool) (refusal : Reply) (stopped : Stop) → Decides {T = T} (if test then None else Some refusal) (Err stopped)
     → OfRefusal (λ reply. reply ≡ refusal) stopped
@@ -337,26 +261,3 @@ early_made new word last parts name named future past = record {
 -- the parts before a name have no id where none has one
 pub front_none : (parts front : List Part) → front ≡ front_of parts → refuse_if (has_id (Parts parts)) ReadOnly ≡ None → has_id (Parts front) ≡ false
 front_none parts front is past = subst (λ (ps : List Part). has_id (Parts ps) ≡ false) (sym is) (front_has_none parts (no_ids parts past))
-
--- two paths, of which the second makes a name, and the first leads to an object or has a name
-pub early_linked : (old new : List ℕ) (last : ℕ) (parts more : List Part) (name : List ℕ) → last_name more ≡ Some name
-    → no_future last (Parts parts) ≡ None → no_future last (Parts more) ≡ None → refuse_if (has_id (Parts parts)) ReadOnly ≡ None
-    → refuse_if (has_id (Parts more)) ReadOnly ≡ None → PassBoth (Ln old new) (Walks Stays) MakesName last parts more
-early_linked old new last parts more name named future next past also = record {
-  good = refl;
-  fine = good_new more name named;
-  future = future;
-  later = next;
-  past = refuse_second (has_id (Parts parts)) (has_id (Parts more)) ReadOnly None past also;
-}
-
-pub early_moved : (old new : List ℕ) (last : ℕ) (parts more : List Part) (from to : List ℕ) → last_name parts ≡ Some from → last_name more ≡ Some to
-    → no_future last (Parts parts) ≡ None → no_future last (Parts more) ≡ None → refuse_if (has_id (Parts parts)) ReadOnly ≡ None
-    → refuse_if (has_id (Parts more)) ReadOnly ≡ None → PassBoth (Mv old new) TakesName MakesName last parts more
-early_moved old new last parts more from to there named future next past also = record {
-  good = good_named parts from there;
-  fine = good_new more to named;
-  future = future;
-  later = next;
-  past = refuse_second (has_id (Parts parts)) (has_id (Parts more)) ReadOnly None past also;
-}

@@ -1,6 +1,6 @@
 -- The checks of `mv`, and what it makes of a tree, by where its walks came to.
-use Rattle.std.proofs.Common.{◌≡◌, ℕ, ◌+◌, ◌<◌, ◌≤◌, List, [], ◌∷◌, Bool, true, false, Option, Some, None, refl, sym, ap, subst, ◌∙◌, arith}
-use Rattle.std.specs.Prelude.{◌==◌, ◌&&◌, ◌||◌, drop, if◌then◌else◌}
+use Rattle.std.proofs.Common.{◌≡◌, ℕ, ◌+◌, ◌<◌, ◌≤◌, List, [], ◌∷◌, Bool, true, false, Option, Some, None, Result, refl, sym, ap, subst, ◌∙◌, arith}
+use Rattle.std.specs.Prelude.{◌==◌, ◌&&◌, ◌||◌, IfSome, if◌then◌else◌}
 use Rattle.std.specs.Bool.{nat_le}
 use Rattle.std.specs.List.{list_any}
 use Rattle.std.specs.Option.{option_map_or}
@@ -8,6 +8,7 @@ use Rattle.std.proofs.lemmas.Bool.{eq-eqb, eqb-true}
 use Rattle.hm_types.specs.Elements.{FullElement}
 use Rattle.hm_types.specs.Tree.{FileTree, named_in, object_in, with_name, without_entry, without_name}
 use Rattle.hm_types.specs.declared.id.Obj.{Obj}
+use Rattle.hm_types.specs.declared.id.Pfs.{Pfs}
 use Rattle.hm_types.specs.declared.object.Object.{Object}
 use Rattle.hm_path.specs.Path.{IsPath}
 use Rattle.hm_path.specs.declared.part.Part.{Part}
@@ -15,7 +16,7 @@ use Rattle.hm_key.specs.Counts.{Counts}
 use Rattle.hm_key.specs.Versions.{HaveOwnKeys}
 use Rattle.hm_model.specs.Call.{Call, site_in}
 use Rattle.hm_model.specs.Change.{changed, changed_pfs, moved_over, renamed}
-use Rattle.hm_model.specs.Due.{Check, gives_way, hash_is_full, is_in_slave, is_passed, new_name, refuse_if, walks}
+use Rattle.hm_model.specs.Due.{Check, first_refusal, gives_way, hash_is_full, is_in_slave, is_passed, new_name, refuse_if, walks}
 use Rattle.hm_model.specs.Needs.{names_zones}
 use Rattle.hm_model.specs.Sites.{At, Located, MakesName, Parsed, Parts, ReadsWords, Site, TakesName, locate}
 use Rattle.hm_model.specs.View.{Now, Position, When, object_at}
@@ -36,15 +37,20 @@ use Rattle.hm_calls.specs.Call.{IsCall}
 use Rattle.hm_calls.specs.Changes.{ChangesTree, HasSystem, tree_now}
 use Rattle.hm_calls.specs.Due.{space_for}
 use Rattle.hm_calls.specs.Known.{AreBelow}
+use Rattle.hm_calls.specs.Moves.{end_checks, leads_to, move_checks}
+use Rattle.hm_calls.specs.Scenes.{is_slave}
+use Rattle.hm_calls.specs.Stages.{AnswersAll, last_checks, place_checks}
+use Rattle.hm_calls.specs.Stop.{Answers}
+use Rattle.hm_calls.specs.declared.stop.Stop.{Stop}
 use Rattle.hm_calls.specs.Writes.{AreOnePlace, IsOpen, Renames, ReplacesName, less_link, place_in, LeavesNothing}
 use Rattle.hm_calls.proofs.EffectLemmas.{has_entry_then, opens, spot_fits, tree_changes, tree_stays, kinds_leading}
 use Rattle.hm_calls.proofs.KindLemmas.{number_found, told_kind}
-use Rattle.hm_calls.proofs.LinkLemmas.{in_slave}
-use Rattle.hm_calls.proofs.MakeLemmas.{IsNewPlace, new_system, new_view, tree_at}
-use Rattle.hm_calls.proofs.RefusalLemmas.{IsFirst, all_checks, pass, read_two}
+use Rattle.hm_calls.proofs.FrontLemmas.{passed_before, skips}
+use Rattle.hm_calls.proofs.MakeLemmas.{IsNewPlace, full_check, new_system, new_view, tree_at}
+use Rattle.hm_calls.proofs.RefusalLemmas.{IsFirst, pass, read_two}
 use Rattle.hm_calls.proofs.RemoveLemmas.{master_check, taken_pfs}
 use Rattle.hm_calls.proofs.SceneLemmas.{IsSet, call_in}
-use Rattle.hm_calls.proofs.StageLemmas.{IsTaken}
+use Rattle.hm_calls.proofs.StageLemmas.{IsTakenName}
 use Rattle.hm_calls.specs.Places.{IsKindOf}
 use Rattle.hm_calls.proofs.TreeLemmas.{leaves_none, link_before, link_gone, link_kind, some_none}
 
@@ -102,10 +108,9 @@ entry_fits hash es t pfs directory key name object fit entry =
       keys_fit : (hash : List ℕ → ℕ) (key : ℕ) (name : List ℕ) → first_key (hash name) ≤ key → key < first_key (hash name) + 65536 → KeyFits hash key name
       keys_fit hash key name from to = omega (arith, from, to)
 
-abbrev mv_tail : (ℕ → ℕ) → ℕ → Call → Located → Located → List Check
-mv_tail room free call one two =
-    refuse_if (is_in_slave call one || (is_in_slave call two || false)) ReadOnly
-    ∷ (if (site_in one).at.pfs == (site_in two).at.pfs then None else Some CrossPfs)
+abbrev mv_last : (ℕ → ℕ) → ℕ → Call → Located → Located → List Check
+mv_last room free call one two =
+    (if (site_in one).at.pfs == (site_in two).at.pfs then None else Some CrossPfs)
     ∷ refuse_if (is_passed (site_in one) (site_in two)) IntoItself
     ∷ way_check call (object_at call.view (site_in one).at) (call.view (site_in two).directory.pfs (site_in two).directory.when)
     (named_in (call.view (site_in two).directory.pfs (site_in two).directory.when) (site_in two).directory.object (site_in two).name)
@@ -116,17 +121,98 @@ mv_tail room free call one two =
     4 room free ∷ []
 
 -- the same by the stands of the walks, and by the number that the new name leads to
-abbrev pub mv_stands : (List ℕ → ℕ) → (ℕ → ℕ) → ℕ → Call → Scene → List ℕ → Stand → Stand → Stand → Option Obj → List Check
-mv_stands hash room free call scene name from object to found =
-    refuse_if (in_slave scene from.at.pfs.0 || (in_slave scene to.at.pfs.0 || false)) ReadOnly
-    ∷ (if from.at.pfs.0 == to.at.pfs.0 then None else Some CrossPfs)
-    ∷ refuse_if to.passed IntoItself
-    ∷ way_check call (object_at scene.view (place_of object.at)) (tree_at scene to) found
+abbrev ends_at : (List ℕ → ℕ) → (ℕ → ℕ) → ℕ → Call → Scene → List ℕ → Stand → Stand → Option Obj → List Check
+ends_at hash room free call scene name object to found =
+    way_check call (object_at scene.view (place_of object.at)) (tree_at scene to) found
     ∷ refuse_if (option_map_or (λ _. false) found (nat_le 1024 (names_of_hash hash (tree_at scene to) to.at.object name))) HashFull ∷ None
     ∷ space_for (if is_itself object.at.object (stands_under (tree_at scene to) found) then [] else names_zones) 4 room free ∷ []
 
+abbrev stands_at : (List ℕ → ℕ) → (ℕ → ℕ) → ℕ → Call → Scene → List ℕ → Stand → Stand → ℕ → Bool → List Check
+stands_at hash room free call scene name object to pfs passed =
+    (if pfs == to.at.pfs.0 then None else Some CrossPfs) ∷ refuse_if passed IntoItself
+    ∷ ends_at hash room free call scene name object to (leads_to scene to name)
+
+-- a check that always passes may stand between
+skip_one : (one two : Check) (refusal : Check) → first_refusal (one ∷ two ∷ []) ≡ refusal → IsFirst (one ∷ None ∷ two ∷ []) refusal
+skip_one None two refusal is = record { is = is }
+skip_one (Some reply) two refusal is = record { is = is }
+
+skip_two : (one two : Check) (refusal : Check) → first_refusal (one ∷ two ∷ []) ≡ refusal → IsFirst (one ∷ None ∷ None ∷ two ∷ []) refusal
+skip_two None two refusal is = record { is = is }
+skip_two (Some reply) two refusal is = record { is = is }
+
+-- both directories are of one pseudo file system
+pub one_pfs_is : (a b : ℕ) → (if a == b then None else Some CrossPfs) ≡ None → a ≡ b
+one_pfs_is a b is = by_test (a == b) refl is where
+  by_test : (t : Bool) → (a == b) ≡ t → (if t then None else Some CrossPfs) ≡ None → a ≡ b
+  by_test true is' passes = eqb-true a b is'
+  by_test false is' passes = absurd (cc)
+
+-- a pseudo file system is told by its number
+pub same_pfs : (a b : Pfs) → a.0 ≡ b.0 → a ≡ b
+same_pfs a b same = λ i. record { 0 = same i }
+
+-- the tree in which the moved object is seen is that of the new name
+pub one_tree : (scene : Scene) (parts more : List Part) (old_name name : List ℕ) (from object to : Stand) → IsTakenName scene parts old_name from object
+    → IsNewPlace scene more name to → from.at.pfs.0 ≡ to.at.pfs.0 → scene.view object.at.pfs.0 (when_of object.at.when) ≡ tree_at scene to
+one_tree scene parts more old_name name from object to taken place same =
+    let pfs : object.at.pfs.0 ≡ to.at.pfs.0 =
+    ap (λ (p : Position). p.pfs) (taken.end_is ∙ taken.standing.at_is) ∙ (ap (λ (p : Position). p.pfs) (sym taken.directory_is) ∙ same) in
+    let now : when_of object.at.when ≡ Now =
+    ap (λ (p : Position). p.when) (taken.end_is ∙ taken.standing.at_is) ∙ taken.standing.now in
+    ap (λ (p : ℕ). scene.view p (when_of object.at.when)) pfs ∙ ap (λ (w : When). scene.view to.at.pfs.0 w) (now ∙ sym place.now)
+
+-- what the checks of both places say first, the model's say
+module _ (hash : List ℕ → ℕ) (room : ℕ → ℕ) (free : ℕ) (call : Call) (scene : Scene) (name : List ℕ) (from object to : Stand)
+    (one : from.at.pfs.0 ≡ to.at.pfs.0 → scene.view object.at.pfs.0 (when_of object.at.when) ≡ tree_at scene to) where
+  -- over one that stands there, which is looked at in the tree of the moved object
+  by_standing : (number : Obj) (standing : Option Object) (refusal : Check) → IfSome standing (λ o. o.number.0 ≡ number.0)
+      → first_refusal ((if option_map_or (λ there. option_map_or (λ moved. gives_way call moved there) (object_at scene.view (place_of object.at)) false)
+      standing false then None else Some Exists) ∷ space_for (if number.0 == object.at.object.0 then [] else names_zones) 4 room free ∷ []) ≡ refusal
+      → IsFirst ((if option_map_or (λ there. option_map_or (λ moved. gives_way call moved there) (object_at scene.view (place_of object.at)) false)
+      standing false then None else Some Exists) ∷ None ∷ None ∷ space_for (if is_itself object.at.object standing then [] else names_zones) 4 room free ∷ [])
+      refusal
+  by_standing number None refusal numbered is = record { is = is }
+  by_standing number (Some o) refusal numbered is =
+      subst (λ (n : ℕ). IsFirst ((if option_map_or (λ moved. gives_way call moved o) (object_at scene.view (place_of object.at)) false
+      then None else Some Exists) ∷ None ∷ None ∷ space_for (if n == object.at.object.0 then [] else names_zones) 4 room free ∷ []) refusal) (sym numbered)
+      (skip_two (if option_map_or (λ moved. gives_way call moved o) (object_at scene.view (place_of object.at)) false then None else Some Exists)
+      (space_for (if number.0 == object.at.object.0 then [] else names_zones) 4 room free) refusal is)
+
+  numbered : (number : Obj) (o : Option Object) → object_in (tree_at scene to) number ≡ o → IfSome o (λ found. found.number.0 ≡ number.0)
+  numbered number None is = tt
+  numbered number (Some o) is = number_found (tree_at scene to) number o is
+
+  by_end : from.at.pfs.0 ≡ to.at.pfs.0 → (found : Option Obj) (refusal : Check)
+      → first_refusal (end_checks hash room free name object to call scene found) ≡ refusal
+      → IsFirst (ends_at hash room free call scene name object to found) refusal
+  by_end same None refusal is = pass refl (skip_one (full_check hash scene to name) (space_for names_zones 4 room free) refusal is)
+  by_end same (Some number) refusal is =
+      by_standing number (object_in (tree_at scene to) number) refusal (numbered number (object_in (tree_at scene to) number) refl)
+      (subst (λ (tree : FileTree). first_refusal ((if option_map_or (λ there. option_map_or (λ moved. gives_way call moved there)
+      (object_at scene.view (place_of object.at)) false) (object_in tree number) false then None else Some Exists)
+      ∷ space_for (if number.0 == object.at.object.0 then [] else names_zones) 4 room free ∷ []) ≡ refusal) (one same) is)
+
+  by_passed : from.at.pfs.0 ≡ to.at.pfs.0 → (passed : Bool) (refusal : Check)
+      → first_refusal (refuse_if passed IntoItself ∷ end_checks hash room free name object to call scene (leads_to scene to name)) ≡ refusal
+      → IsFirst (refuse_if passed IntoItself ∷ ends_at hash room free call scene name object to (leads_to scene to name)) refusal
+  by_passed same true refusal is = record { is = is }
+  by_passed same false refusal is = pass refl (by_end same (leads_to scene to name) refusal is)
+
+  by_pfs : (test : Bool) → (from.at.pfs.0 == to.at.pfs.0) ≡ test → (refusal : Check)
+      → first_refusal ((if test then None else Some CrossPfs) ∷ refuse_if to.passed IntoItself
+      ∷ end_checks hash room free name object to call scene (leads_to scene to name)) ≡ refusal
+      → IsFirst ((if test then None else Some CrossPfs) ∷ refuse_if to.passed IntoItself
+      ∷ ends_at hash room free call scene name object to (leads_to scene to name)) refusal
+  by_pfs true same refusal is = pass refl (by_passed (eqb-true from.at.pfs.0 to.at.pfs.0 same) to.passed refusal is)
+  by_pfs false same refusal is = record { is = is }
+
+  mv_first : (refusal : Check) → first_refusal (move_checks hash room free name from object to call scene) ≡ refusal
+      → IsFirst (stands_at hash room free call scene name object to from.at.pfs.0 to.passed) refusal
+  mv_first refusal is = by_pfs (from.at.pfs.0 == to.at.pfs.0) refl refusal is
+
 module _ (hash : List ℕ → ℕ) (room : ℕ → ℕ) (free : ℕ) (old new : List ℕ) (scene : Scene) (parts more : List Part) (old_name name : List ℕ)
-    (from object to : Stand) (taken : IsTaken scene parts old_name from object) (place : IsNewPlace scene more name to)
+    (from object to : Stand) (taken : IsTakenName scene parts old_name from object) (place : IsNewPlace scene more name to)
     (told : to.passed ≡ list_any (λ p. (p.0 == object.at.pfs.0) && (p.1 == object.at.object.0)) place.site.passed) (busy : Option ℕ) where
   abbrev pub mv : Call
   mv = call_in hash (Mv old new) (Parts parts ∷ Parts more ∷ []) busy scene
@@ -157,25 +243,47 @@ module _ (hash : List ℕ → ℕ) (room : ℕ → ℕ) (free : ℕ) (old new : 
   abbrev pub leads : Option Obj
   leads = named_in (tree_at scene to) to.at.object name
 
-  abbrev TailAt : Check → ℕ → Bool → Type 0
-  TailAt refusal pfs passed =
-      IsFirst (refuse_if (in_slave scene pfs || (in_slave scene to.at.pfs.0 || false)) ReadOnly
-      ∷ (if pfs == to.at.pfs.0 then None else Some CrossPfs) ∷ refuse_if passed IntoItself
-      ∷ way_check mv (object_at scene.view (place_of object.at)) (tree_at scene to) leads
-      ∷ refuse_if (option_map_or (λ _. false) leads (nat_le 1024 (names_of_hash hash (tree_at scene to) to.at.object name))) HashFull ∷ None
-      ∷ space_for (if is_itself object.at.object (stands_under (tree_at scene to) leads) then [] else names_zones) 4 room free ∷ []) refusal
+  -- what is told of the places, by where the walks came to
+  pub mv_places : {T : Type 0} {result : Result T Stop}
+      → AnswersAll (refuse_if (is_slave scene.volume from.at.pfs.0 || (is_slave scene.volume to.at.pfs.0 || false)) ReadOnly ∷ []) result
+      → AnswersAll (place_checks mv) result
+  mv_places {result = result} masters =
+      skips (ap walks one_is) (skips (ap walks two_is)
+      (subst (λ (l : Located). AnswersAll (refuse_if (is_in_slave mv l || (is_in_slave mv (locate scene.volume scene.view MakesName more) || false)) ReadOnly
+      ∷ []) result) (sym one_is)
+      (subst (λ (l : Located). AnswersAll (refuse_if (is_in_slave mv (one_at (place_of object.at) (place_of from.at) old_name) || (is_in_slave mv l || false))
+      ReadOnly ∷ []) result) (sym two_is)
+      (subst (λ (p : ℕ). AnswersAll (refuse_if (is_slave scene.volume p || (is_slave scene.volume to.at.pfs.0 || false)) ReadOnly ∷ []) result)
+      (sym object_pfs) masters))))
 
-  -- what the checks after the walks say first, they say by where these came to
-  pub mv_after : (refusal : Check) → IsFirst (mv_stands hash room free mv scene name from object to leads) refusal
-      → IsFirst (walks (locate scene.volume scene.view TakesName parts) ∷ walks (locate scene.volume scene.view MakesName more)
-      ∷ drop 10 (all_checks mv room free)) refusal
-  mv_after refusal first = pass (ap walks one_is) (pass (ap walks two_is) (whole first)) where
-    whole : TailAt refusal from.at.pfs.0 to.passed → IsFirst (drop 10 (all_checks mv room free)) refusal
-    whole first =
-        subst (λ (l : Located). IsFirst (mv_tail room free mv l (locate scene.volume scene.view MakesName more)) refusal) (sym one_is)
-        (subst (λ (l : Located). IsFirst (mv_tail room free mv (one_at (place_of object.at) (place_of from.at) old_name) l) refusal) (sym two_is)
-        (subst (λ (p : ℕ). TailAt refusal p (list_any (λ p. (p.0 == object.at.pfs.0) && (p.1 == object.at.object.0)) place.site.passed)) (sym object_pfs)
-        (subst (λ (b : Bool). TailAt refusal from.at.pfs.0 b) told first)))
+  one_view : from.at.pfs.0 ≡ to.at.pfs.0 → scene.view object.at.pfs.0 (when_of object.at.when) ≡ tree_at scene to
+  one_view = one_tree scene parts more old_name name from object to taken place
+
+  -- and of the checks after that
+  pub mv_checks : {T : Type 0} {result : Result T Stop} → AnswersAll (move_checks hash room free name from object to mv scene) result
+      → AnswersAll (last_checks mv room free) result
+  mv_checks {result = result} asked =
+      subst (λ (l : Located). AnswersAll (mv_last room free mv l (locate scene.volume scene.view MakesName more)) result) (sym one_is)
+      (subst (λ (l : Located). AnswersAll (mv_last room free mv (one_at (place_of object.at) (place_of from.at) old_name) l) result) (sym two_is)
+      (subst (λ (p : ℕ). AnswersAll (stands_at hash room free mv scene name object to p
+      (list_any (λ p. (p.0 == object.at.pfs.0) && (p.1 == object.at.object.0)) place.site.passed)) result) (sym object_pfs)
+      (subst (λ (b : Bool). AnswersAll (stands_at hash room free mv scene name object to from.at.pfs.0 b) result) told
+      (record {
+        is = subst (λ (check : Check). Answers check result)
+            (sym (mv_first hash room free mv scene name from object to one_view
+            (first_refusal (move_checks hash room free name from object to mv scene)) refl).is) asked.is;
+      }))))
+
+  -- where they all pass
+  pub mv_passes : first_refusal (move_checks hash room free name from object to mv scene) ≡ None
+      → ((if from.at.pfs.0 == to.at.pfs.0 then None else Some CrossPfs) ≡ None) × (refuse_if to.passed IntoItself ≡ None)
+      × (way_check mv (object_at scene.view (place_of object.at)) (tree_at scene to) leads ≡ None)
+  mv_passes none =
+      passed_before (if from.at.pfs.0 == to.at.pfs.0 then None else Some CrossPfs) (refuse_if to.passed IntoItself)
+      (way_check mv (object_at scene.view (place_of object.at)) (tree_at scene to) leads)
+      (refuse_if (option_map_or (λ _. false) leads (nat_le 1024 (names_of_hash hash (tree_at scene to) to.at.object name))) HashFull)
+      (None ∷ space_for (if is_itself object.at.object (stands_under (tree_at scene to) leads) then [] else names_zones) 4 room free ∷ [])
+      (mv_first hash room free mv scene name from object to one_view None none).is
 
   -- ---- what it makes of the tree
 

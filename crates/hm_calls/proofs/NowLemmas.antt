@@ -19,6 +19,7 @@ use Rattle.hm_model.specs.declared.reply.Reply.{Reply}
 use Rattle.hm_model.specs.declared.reply.Reply.TheVariants.{NotDir, NotFound, NotRetained}
 use Rattle.hm_model.proofs.PlaceLemmas.{front_of-split}
 use Rattle.hm_model.proofs.WalkLemmas.{walk_on-last}
+pub use Rattle.hm_calls.specs.Scenes.{IsStanding}
 
 -- ---- where a walk ends
 
@@ -113,15 +114,6 @@ some_reaches : {X : Type 0} (f : X → Walked) (found : Option X) (reply : Reply
     → option_map_or f found (Refuses reply passed) ≡ Reaches here more → IsSomeReaching f found here more
 some_reaches f None reply passed more here is = absurd (cc)
 some_reaches f (Some x) reply passed more here is = record { x = x; some = refl; is = is }
-
--- a name that stands there: the directory and the object that it leads to, of what is shown now
-pub record IsStanding (view : View) (name : List ℕ) (directory at : Position) : Type 0 where
-  pub now : directory.when ≡ Now
-  pub number : Obj
-  pub named : named_in (view directory.pfs Now) directory.object name ≡ Some number
-  pub at_is : at ≡ record directory { object = number }
-  pub object : Object
-  pub there : object_at view at ≡ Some object
 
 found_stays : (volume : Volume) (view : View) (o : Object) (linked : Option ℕ) (at here : Position) (passed more : Passed)
     → option_map_or (λ pfs. over_link volume view Stays pfs at passed) linked (Reaches at passed) ≡ Reaches here more → here ≡ at

@@ -238,14 +238,6 @@ module _ (hash : List ℕ → ℕ) (id : ℕ) (course : Course) (before : course
         one_refuses (λ _. Unit {0}) (λ scene. walks (locate scene.volume scene.view u parts)) (λ reply busy scene set known is.
         after_early early busy scene (Some reply) set (stop is)) no_scene stopped told
 
--- the checks before the walks of two paths pass
-pub record PassBoth (command : Command) (u v : Use) (last : ℕ) (parts more : List Part) : Type 0 where
-  pub good : good_path u (Parts parts) ≡ None
-  pub fine : good_path v (Parts more) ≡ None
-  pub future : no_future last (Parts parts) ≡ None
-  pub later : no_future last (Parts more) ≡ None
-  pub past : past_stays command (Parts parts ∷ Parts more ∷ []) ≡ None
-
 module _ (hash : List ℕ → ℕ) (id : ℕ) (course : Course) (before : course.last.0 + 1 ≡ id) (most : id ≤ GREATEST_ID) (command : Command) (u v : Use)
     (word other : List ℕ) (is_two : IsOfTwo command u v word other) (es : Option (List Element)) (xs : Option (List Extent)) (room : ℕ → ℕ) (free : ℕ) where
   paths_two : (paths : List Parsed) → ReadsWords command paths
@@ -291,102 +283,6 @@ module _ (hash : List ℕ → ℕ) (id : ℕ) (course : Course) (before : course
         is_two.form hash room free path next busy scene (Some refusal)
         (pass (id_left hash id course scene before most set) (pass refl (pass (ap (good_path u) (read_once word parts path path_is reads) ∙ good)
         (stop (bad_once v other reply next bad next_reads ∙ is)))))) (Refused reply) refl
-
-    module _ (more : List Part) (more_is : IsPath other more) where
-      same_two : (paths : List Parsed) → ReadsWords command paths → paths ≡ Parts parts ∷ Parts more ∷ []
-      same_two paths reads =
-          let both = paths_two paths reads in
-          both.2 ∙ ap (λ p. p ∷ both.1 ∷ []) (read_once word parts both.0 path_is both.3)
-          ∙ ap (λ p. Parts parts ∷ p ∷ []) (read_once other more both.1 more_is both.4)
-
-      -- a check of paths that were read refuses
-      pub two_refuses : (F : Scene → Type 0) (check : Scene → Check)
-          → ((reply : Reply) (busy : Option ℕ) (scene : Scene) → IsSet hash course scene → F scene → check scene ≡ Some reply
-          → IsFirst (all_checks (call_in hash command (Parts parts ∷ Parts more ∷ []) busy scene) room free) (Some reply))
-          → OnScenes hash es xs course F → (stopped : Stop) → OnScenes hash es xs course (λ scene. IsStoppedBy (check scene) stopped)
-          → IsRefused hash id command es xs room free stopped
-      two_refuses F check first known stopped told =
-          step_refuses hash id course before command es xs room free F check (λ reply busy paths scene reads set is refuses.
-          subst (λ (ps : List Parsed). IsFirst (all_checks (call_in hash command ps busy scene) room free) (Some reply)) (sym (same_two paths reads))
-          (first reply busy scene set is refuses)) known stopped told
-
-      pub two_accepts : (F : Scene → Type 0) (reply : Reply)
-          → ((busy : Option ℕ) (scene : Scene) → IsSet hash course scene → F scene
-          → IsFirst (all_checks (call_in hash command (Parts parts ∷ Parts more ∷ []) busy scene) room free) None
-          × (accepted (call_in hash command (Parts parts ∷ Parts more ∷ []) busy scene) ≡ reply))
-          → OnScenes hash es xs course F → IsAcceptedBy hash id (λ call. call.command ≡ command) es xs room free reply
-      two_accepts F reply all known =
-          all_accept hash id course before command es xs room free F reply (λ busy paths scene reads set is.
-          subst (λ (ps : List Parsed). IsFirst (all_checks (call_in hash command ps busy scene) room free) None
-          × (accepted (call_in hash command ps busy scene) ≡ reply)) (sym (same_two paths reads)) (all busy scene set is)) known
-
-      -- a check before the walks refuses; those up to it are given as they stand
-      early_refuses : (check : Check) → ((busy : Option ℕ) (scene : Scene) (reply : Reply) → check ≡ Some reply
-          → IsFirst (good_path u (Parts parts) ∷ good_path v (Parts more) ∷ no_future course.last.0 (Parts parts) ∷ no_future course.last.0 (Parts more)
-          ∷ None ∷ past_stays command (Parts parts ∷ Parts more ∷ []) ∷ walks (locate scene.volume scene.view u parts)
-          ∷ walks (locate scene.volume scene.view v more)
-          ∷ drop 10 (all_checks (call_in hash command (Parts parts ∷ Parts more ∷ []) busy scene) room free)) (Some reply))
-          → (stopped : Stop) → IsStoppedBy check stopped → IsRefused hash id command es xs room free stopped
-      early_refuses check first stopped refuses =
-          two_refuses (λ _. Unit {0}) (λ _. check) (λ reply busy scene set known is. over_both busy scene (Some reply) set (first busy scene reply is))
-          no_scenes stopped (scenes_all hash course es xs (λ _. IsStoppedBy check stopped) (λ _ _. refuses)) where
-            over_both : (busy : Option ℕ) (scene : Scene) (refusal : Check) → IsSet hash course scene
-                → IsFirst (good_path u (Parts parts) ∷ good_path v (Parts more) ∷ no_future course.last.0 (Parts parts)
-                ∷ no_future course.last.0 (Parts more) ∷ None ∷ past_stays command (Parts parts ∷ Parts more ∷ [])
-                ∷ walks (locate scene.volume scene.view u parts) ∷ walks (locate scene.volume scene.view v more)
-                ∷ drop 10 (all_checks (call_in hash command (Parts parts ∷ Parts more ∷ []) busy scene) room free)) refusal
-                → IsFirst (all_checks (call_in hash command (Parts parts ∷ Parts more ∷ []) busy scene) room free) refusal
-            over_both busy scene refusal set first =
-                is_two.form hash room free (Parts parts) (Parts more) busy scene refusal (pass (id_left hash id course scene before most set) (pass refl
-                (subst (λ (last : ℕ). IsFirst (good_path u (Parts parts) ∷ good_path v (Parts more) ∷ no_future last (Parts parts)
-                ∷ no_future last (Parts more) ∷ None ∷ past_stays command (Parts parts ∷ Parts more ∷ [])
-                ∷ walks (locate scene.volume scene.view u parts) ∷ walks (locate scene.volume scene.view v more)
-                ∷ drop 10 (all_checks (call_in hash command (Parts parts ∷ Parts more ∷ []) busy scene) room free)) refusal) (sym set.last) first)))
-
-      pub second_name_refuses : good_path u (Parts parts) ≡ None → (stopped : Stop) → IsStoppedBy (good_path v (Parts more)) stopped
-          → IsRefused hash id command es xs room free stopped
-      second_name_refuses good = early_refuses (good_path v (Parts more)) (λ busy scene reply is. pass good (stop is))
-
-      pub first_future_refuses : good_path u (Parts parts) ≡ None → good_path v (Parts more) ≡ None → (stopped : Stop)
-          → IsStoppedBy (no_future course.last.0 (Parts parts)) stopped → IsRefused hash id command es xs room free stopped
-      first_future_refuses good fine = early_refuses (no_future course.last.0 (Parts parts)) (λ busy scene reply is. pass good (pass fine (stop is)))
-
-      pub second_future_refuses : good_path u (Parts parts) ≡ None → good_path v (Parts more) ≡ None → no_future course.last.0 (Parts parts) ≡ None
-          → (stopped : Stop) → IsStoppedBy (no_future course.last.0 (Parts more)) stopped → IsRefused hash id command es xs room free stopped
-      second_future_refuses good fine future =
-          early_refuses (no_future course.last.0 (Parts more)) (λ busy scene reply is. pass good (pass fine (pass future (stop is))))
-
-      pub both_past_refuses : good_path u (Parts parts) ≡ None → good_path v (Parts more) ≡ None → no_future course.last.0 (Parts parts) ≡ None
-          → no_future course.last.0 (Parts more) ≡ None → (stopped : Stop) → IsStoppedBy (past_stays command (Parts parts ∷ Parts more ∷ [])) stopped
-          → IsRefused hash id command es xs room free stopped
-      both_past_refuses good fine future later =
-          early_refuses (past_stays command (Parts parts ∷ Parts more ∷ []))
-          (λ busy scene reply is. pass good (pass fine (pass future (pass later (pass refl (stop is))))))
-
-      -- what the walks and the checks after them say first, is said first
-      pub after_both : PassBoth command u v course.last.0 parts more → (busy : Option ℕ) (scene : Scene) (refusal : Check) → IsSet hash course scene
-          → IsFirst (walks (locate scene.volume scene.view u parts) ∷ walks (locate scene.volume scene.view v more)
-          ∷ drop 10 (all_checks (call_in hash command (Parts parts ∷ Parts more ∷ []) busy scene) room free)) refusal
-          → IsFirst (all_checks (call_in hash command (Parts parts ∷ Parts more ∷ []) busy scene) room free) refusal
-      after_both early busy scene refusal set first =
-          is_two.form hash room free (Parts parts) (Parts more) busy scene refusal (pass (id_left hash id course scene before most set)
-          (pass refl (pass early.good (pass early.fine (pass (subst (λ (last : ℕ). no_future last (Parts parts) ≡ None) (sym set.last) early.future)
-          (pass (subst (λ (last : ℕ). no_future last (Parts more) ≡ None) (sym set.last) early.later) (pass refl (pass early.past first))))))))
-
-      pub first_walk_refuses : PassBoth command u v course.last.0 parts more → (stopped : Stop)
-          → OnScenes hash es xs course (λ scene. IsStoppedBy (walks (locate scene.volume scene.view u parts)) stopped)
-          → IsRefused hash id command es xs room free stopped
-      first_walk_refuses early stopped told =
-          two_refuses (λ _. Unit {0}) (λ scene. walks (locate scene.volume scene.view u parts)) (λ reply busy scene set known is.
-          after_both early busy scene (Some reply) set (stop is)) no_scenes stopped told
-
-      pub second_walk_refuses : PassBoth command u v course.last.0 parts more
-          → OnScenes hash es xs course (λ scene. walks (locate scene.volume scene.view u parts) ≡ None) → (stopped : Stop)
-          → OnScenes hash es xs course (λ scene. IsStoppedBy (walks (locate scene.volume scene.view v more)) stopped)
-          → IsRefused hash id command es xs room free stopped
-      second_walk_refuses early there stopped told =
-          two_refuses (λ scene. walks (locate scene.volume scene.view u parts) ≡ None) (λ scene. walks (locate scene.volume scene.view v more))
-          (λ reply busy scene set walked is. after_both early busy scene (Some reply) set (pass walked (stop is))) there stopped told
 
 pub of_ls : (word : List ℕ) → IsOfOne (Ls word) (Walks Follows) word
 of_ls word = record { uses = refl; form = λ hash room free path busy scene refusal first. first }

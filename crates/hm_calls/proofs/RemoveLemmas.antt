@@ -55,7 +55,7 @@ use Rattle.hm_calls.proofs.KindLemmas.{directory_asked, number_found}
 use Rattle.hm_calls.proofs.RefusalLemmas.{IsFirst, IsRefused, PassEarly, after_early, all_checks, all_pass, of_rm, of_rmdir, one_accepts, one_refuses}
 use Rattle.hm_calls.proofs.RefusalLemmas.{pass, read_one, refuse_one, stop}
 use Rattle.hm_calls.proofs.SceneLemmas.{IsSet, IsStoppedBy, OnScenes, call_in, scenes_all, scenes_back, scenes_balanced, scenes_both, scenes_so}
-use Rattle.hm_calls.proofs.StageLemmas.{IsTaken, Wrote, scenes_below, scenes_own, slave_check, writes_changes}
+use Rattle.hm_calls.proofs.StageLemmas.{IsTakenName, Wrote, scenes_below, scenes_own, slave_check, writes_changes}
 use Rattle.hm_calls.proofs.TreeLemmas.{leaves_none, link_gone, object_gone}
 
 -- ---- an object by its inode
@@ -98,7 +98,7 @@ master_check scene = slave_check scene.volume
 -- ---- a name that is taken, of a scene
 
 module _ (hash : List ℕ → ℕ) (scene : Scene) (parts : List Part) (name : List ℕ) (directory end : Stand)
-    (is : IsTaken scene parts name directory end) where
+    (is : IsTakenName scene parts name directory end) where
   pub taken_walks : walks (locate scene.volume scene.view TakesName parts) ≡ None
   taken_walks = ap walks is.place_is
 
@@ -167,7 +167,7 @@ module _ (hash : List ℕ → ℕ) (scene : Scene) (parts : List Part) (name : L
 -- ---- `rm`
 
 module _ (hash : List ℕ → ℕ) (word : List ℕ) (scene : Scene) (parts : List Part) (name : List ℕ) (directory end : Stand)
-    (is : IsTaken scene parts name directory end) (busy : Option ℕ) where
+    (is : IsTakenName scene parts name directory end) (busy : Option ℕ) where
   abbrev pub rm : Call
   rm = call_in hash (Rm word) (Parts parts ∷ []) busy scene
 
@@ -231,7 +231,7 @@ module _ (hash : List ℕ → ℕ) (word : List ℕ) (scene : Scene) (parts : Li
 -- ---- `rmdir`
 
 module _ (hash : List ℕ → ℕ) (word : List ℕ) (scene : Scene) (parts : List Part) (name : List ℕ) (directory end : Stand)
-    (is : IsTaken scene parts name directory end) (busy : Option ℕ) where
+    (is : IsTakenName scene parts name directory end) (busy : Option ℕ) where
   abbrev pub rmdir : Call
   rmdir = call_in hash (Rmdir word) (Parts parts ∷ []) busy scene
 
@@ -309,32 +309,32 @@ no_space free = rw (le-ltb (free - 0) 0 (omega arith)) refl
 
 -- what is known of a store when a name is taken away
 pub record IsRemoval (scene : Scene) (parts : List Part) (name : List ℕ) (directory end : Stand) (id : ℕ) : Type 0 where
-  pub taken : IsTaken scene parts name directory end
+  pub taken : IsTakenName scene parts name directory end
   pub own : HaveOwnKeys scene.elements
   pub below : AreBelow directory.at.pfs.0 id scene.elements
   pub master : master_check scene directory.at.pfs.0 ≡ None
 
 module _ (hash : List ℕ → ℕ) (id : ℕ) (course : Course) (before : course.last.0 + 1 ≡ id) (most : id ≤ GREATEST_ID) (word : List ℕ) (parts : List Part)
     (path : IsPath word parts) (es : Option (List Element)) (xs : Option (List Extent)) (room : ℕ → ℕ) (free : ℕ) (name : List ℕ) (directory end : Stand)
-    (taken : OnScenes hash es xs course (λ scene. IsTaken scene parts name directory end)) where
+    (taken : OnScenes hash es xs course (λ scene. IsTakenName scene parts name directory end)) where
   -- the facts when a name is taken away
   pub removal : IfSome es IsContent → AreBelowIn es xs directory.at.pfs.0 id → OnScenes hash es xs course (λ scene. master_check scene directory.at.pfs.0 ≡
       None)
       → OnScenes hash es xs course (λ scene. IsRemoval scene parts name directory end id)
   removal content below master =
       scenes_so hash course es xs
-      (λ scene. (IsTaken scene parts name directory end × (master_check scene directory.at.pfs.0 ≡ None))
+      (λ scene. (IsTakenName scene parts name directory end × (master_check scene directory.at.pfs.0 ≡ None))
       × (HaveOwnKeys scene.elements × AreBelow directory.at.pfs.0 id scene.elements))
       (λ scene. IsRemoval scene parts name directory end id)
       (λ scene set all. record { taken = all.0.0; own = all.1.0; below = all.1.1; master = all.0.1 })
-      (scenes_both hash course es xs (λ scene. IsTaken scene parts name directory end × (master_check scene directory.at.pfs.0 ≡ None))
+      (scenes_both hash course es xs (λ scene. IsTakenName scene parts name directory end × (master_check scene directory.at.pfs.0 ≡ None))
       (λ scene. HaveOwnKeys scene.elements × AreBelow directory.at.pfs.0 id scene.elements)
-      (scenes_both hash course es xs (λ scene. IsTaken scene parts name directory end) (λ scene. master_check scene directory.at.pfs.0 ≡ None) taken master)
+      (scenes_both hash course es xs (λ scene. IsTakenName scene parts name directory end) (λ scene. master_check scene directory.at.pfs.0 ≡ None) taken master)
       (scenes_both hash course es xs (λ scene. HaveOwnKeys scene.elements) (λ scene. AreBelow directory.at.pfs.0 id scene.elements)
       (scenes_own hash course es xs content) (scenes_below hash course es xs directory.at.pfs.0 id below)))
 
   module _ (early : PassEarly (Rm word) TakesName course.last.0 parts) where
-    rm_after : (busy : Option ℕ) (scene : Scene) (refusal : Check) → IsSet hash course scene → IsTaken scene parts name directory end
+    rm_after : (busy : Option ℕ) (scene : Scene) (refusal : Check) → IsSet hash course scene → IsTakenName scene parts name directory end
         → IsFirst (drop 7 (all_checks (call_in hash (Rm word) (Parts parts ∷ []) busy scene) room free)) refusal
         → IsFirst (all_checks (call_in hash (Rm word) (Parts parts ∷ []) busy scene) room free) refusal
     rm_after busy scene refusal set is first =
@@ -345,7 +345,7 @@ module _ (hash : List ℕ → ℕ) (id : ℕ) (course : Course) (before : course
         → IsRefused hash id (Rm word) es xs room free stopped
     rm_master_refuses stopped told =
         one_refuses hash id course before most (Rm word) TakesName word (of_rm word) es xs room free parts path
-        (λ scene. IsTaken scene parts name directory end) (λ scene. master_check scene directory.at.pfs.0)
+        (λ scene. IsTakenName scene parts name directory end) (λ scene. master_check scene directory.at.pfs.0)
         (λ reply busy scene set is refuses. rm_after busy scene (Some reply) set is
         (stop (taken_slave hash scene parts name directory end is (Rm word) (Parts parts ∷ []) busy (Some reply) refuses)))
         taken stopped told
@@ -354,17 +354,18 @@ module _ (hash : List ℕ → ℕ) (id : ℕ) (course : Course) (before : course
     pub rm_missing_refuses : end.inode ≡ None → (stopped : Stop) → IsRefused hash id (Rm word) es xs room free stopped
     rm_missing_refuses none stopped =
         one_refuses hash id course before most (Rm word) TakesName word (of_rm word) es xs room free parts path
-        (λ scene. IsTaken scene parts name directory end) (λ scene. None)
+        (λ scene. IsTakenName scene parts name directory end) (λ scene. None)
         (λ reply busy scene set is refuses. absurd (unfound hash scene parts name directory end is none)) taken stopped
-        (scenes_so hash course es xs (λ scene. IsTaken scene parts name directory end) (λ scene. IsStoppedBy None stopped)
+        (scenes_so hash course es xs (λ scene. IsTakenName scene parts name directory end) (λ scene. IsStoppedBy None stopped)
         (λ scene set is. absurd (unfound hash scene parts name directory end is none)) taken)
 
     module _ (master : OnScenes hash es xs course (λ scene. master_check scene directory.at.pfs.0 ≡ None)) where
-      both : OnScenes hash es xs course (λ scene. IsTaken scene parts name directory end × (master_check scene directory.at.pfs.0 ≡ None))
+      both : OnScenes hash es xs course (λ scene. IsTakenName scene parts name directory end × (master_check scene directory.at.pfs.0 ≡ None))
       both =
-          scenes_both hash course es xs (λ scene. IsTaken scene parts name directory end) (λ scene. master_check scene directory.at.pfs.0 ≡ None) taken master
+          scenes_both hash course es xs (λ scene. IsTakenName scene parts name directory end) (λ scene. master_check scene directory.at.pfs.0 ≡ None)
+          taken master
 
-      rm_next : (busy : Option ℕ) (scene : Scene) (refusal : Check) → IsSet hash course scene → IsTaken scene parts name directory end
+      rm_next : (busy : Option ℕ) (scene : Scene) (refusal : Check) → IsSet hash course scene → IsTakenName scene parts name directory end
           → master_check scene directory.at.pfs.0 ≡ None
           → IsFirst (drop 8 (all_checks (call_in hash (Rm word) (Parts parts ∷ []) busy scene) room free)) refusal
           → IsFirst (all_checks (call_in hash (Rm word) (Parts parts ∷ []) busy scene) room free) refusal
@@ -377,18 +378,18 @@ module _ (hash : List ℕ → ℕ) (id : ℕ) (course : Course) (before : course
           → IsRefused hash id (Rm word) es xs room free stopped
       rm_kind_refuses stopped told =
           one_refuses hash id course before most (Rm word) TakesName word (of_rm word) es xs room free parts path
-          (λ scene. IsTaken scene parts name directory end × (master_check scene directory.at.pfs.0 ≡ None))
+          (λ scene. IsTakenName scene parts name directory end × (master_check scene directory.at.pfs.0 ≡ None))
           (λ scene. refuse_kind is_dir_or_link IsDir (object_at scene.view (place_of end.at)))
           (λ reply busy scene set is refuses. rm_next busy scene (Some reply) set is.0 is.1
           (stop (rm_kind hash word scene parts name directory end is.0 busy (Some reply) refuses)))
           both stopped
-          (scenes_so hash course es xs (λ scene. IsTaken scene parts name directory end)
+          (scenes_so hash course es xs (λ scene. IsTakenName scene parts name directory end)
           (λ scene. IsStoppedBy (refuse_kind is_dir_or_link IsDir (object_at scene.view (place_of end.at))) stopped)
           (λ scene set is. told scene is.read) taken)
 
       module _ (kind : (scene : Scene) → IsRead scene end → refuse_kind is_dir_or_link IsDir (object_at scene.view (place_of end.at)) ≡ None)
           (inode : Inode) (has : end.inode ≡ Some inode) where
-        rm_last : (busy : Option ℕ) (scene : Scene) (refusal : Check) → IsSet hash course scene → IsTaken scene parts name directory end
+        rm_last : (busy : Option ℕ) (scene : Scene) (refusal : Check) → IsSet hash course scene → IsTakenName scene parts name directory end
             → master_check scene directory.at.pfs.0 ≡ None
             → IsFirst (space_left (call_in hash (Rm word) (Parts parts ∷ []) busy scene) room free ∷ []) refusal
             → IsFirst (all_checks (call_in hash (Rm word) (Parts parts ∷ []) busy scene) room free) refusal
@@ -400,7 +401,7 @@ module _ (hash : List ℕ → ℕ) (id : ℕ) (course : Course) (before : course
             → IsRefused hash id (Rm word) es xs room free stopped
         rm_space_refuses stopped told =
             one_refuses hash id course before most (Rm word) TakesName word (of_rm word) es xs room free parts path
-            (λ scene. IsTaken scene parts name directory end × (master_check scene directory.at.pfs.0 ≡ None))
+            (λ scene. IsTakenName scene parts name directory end × (master_check scene directory.at.pfs.0 ≡ None))
             (λ scene. space_for (zones_beside inode) 0 room free)
             (λ reply busy scene set is refuses. rm_last busy scene (Some reply) set is.0 is.1
             (stop (rm_space hash word scene parts name directory end is.0 busy inode has room free (Some reply) refuses)))
@@ -410,7 +411,7 @@ module _ (hash : List ℕ → ℕ) (id : ℕ) (course : Course) (before : course
             → IsAcceptedBy hash id (λ call. call.command ≡ Rm word) es xs room free Done
         rm_accepts told =
             one_accepts hash id course before most (Rm word) TakesName word (of_rm word) es xs room free parts path
-            (λ scene. IsTaken scene parts name directory end × (master_check scene directory.at.pfs.0 ≡ None)) Done
+            (λ scene. IsTakenName scene parts name directory end × (master_check scene directory.at.pfs.0 ≡ None)) Done
             (λ busy scene set is. (
               rm_last busy scene None set is.0 is.1
                   (pass (rm_space hash word scene parts name directory end is.0 busy inode has room free None told) all_pass),
@@ -431,7 +432,7 @@ module _ (hash : List ℕ → ℕ) (id : ℕ) (course : Course) (before : course
       known writes
 
   module _ (early : PassEarly (Rmdir word) TakesName course.last.0 parts) where
-    rmdir_after : (busy : Option ℕ) (scene : Scene) (refusal : Check) → IsSet hash course scene → IsTaken scene parts name directory end
+    rmdir_after : (busy : Option ℕ) (scene : Scene) (refusal : Check) → IsSet hash course scene → IsTakenName scene parts name directory end
         → IsFirst (drop 7 (all_checks (call_in hash (Rmdir word) (Parts parts ∷ []) busy scene) room free)) refusal
         → IsFirst (all_checks (call_in hash (Rmdir word) (Parts parts ∷ []) busy scene) room free) refusal
     rmdir_after busy scene refusal set is first =
@@ -442,17 +443,18 @@ module _ (hash : List ℕ → ℕ) (id : ℕ) (course : Course) (before : course
         → IsRefused hash id (Rmdir word) es xs room free stopped
     rmdir_master_refuses stopped told =
         one_refuses hash id course before most (Rmdir word) TakesName word (of_rmdir word) es xs room free parts path
-        (λ scene. IsTaken scene parts name directory end) (λ scene. master_check scene directory.at.pfs.0)
+        (λ scene. IsTakenName scene parts name directory end) (λ scene. master_check scene directory.at.pfs.0)
         (λ reply busy scene set is refuses. rmdir_after busy scene (Some reply) set is
         (stop (taken_slave hash scene parts name directory end is (Rmdir word) (Parts parts ∷ []) busy (Some reply) refuses)))
         taken stopped told
 
     module _ (master : OnScenes hash es xs course (λ scene. master_check scene directory.at.pfs.0 ≡ None)) where
-      rmdir_both : OnScenes hash es xs course (λ scene. IsTaken scene parts name directory end × (master_check scene directory.at.pfs.0 ≡ None))
+      rmdir_both : OnScenes hash es xs course (λ scene. IsTakenName scene parts name directory end × (master_check scene directory.at.pfs.0 ≡ None))
       rmdir_both =
-          scenes_both hash course es xs (λ scene. IsTaken scene parts name directory end) (λ scene. master_check scene directory.at.pfs.0 ≡ None) taken master
+          scenes_both hash course es xs (λ scene. IsTakenName scene parts name directory end) (λ scene. master_check scene directory.at.pfs.0 ≡ None)
+          taken master
 
-      rmdir_next : (busy : Option ℕ) (scene : Scene) (refusal : Check) → IsSet hash course scene → IsTaken scene parts name directory end
+      rmdir_next : (busy : Option ℕ) (scene : Scene) (refusal : Check) → IsSet hash course scene → IsTakenName scene parts name directory end
           → master_check scene directory.at.pfs.0 ≡ None
           → IsFirst (drop 8 (all_checks (call_in hash (Rmdir word) (Parts parts ∷ []) busy scene) room free)) refusal
           → IsFirst (all_checks (call_in hash (Rmdir word) (Parts parts ∷ []) busy scene) room free) refusal
@@ -465,17 +467,17 @@ module _ (hash : List ℕ → ℕ) (id : ℕ) (course : Course) (before : course
           → IsRefused hash id (Rmdir word) es xs room free stopped
       rmdir_kind_refuses stopped told =
           one_refuses hash id course before most (Rmdir word) TakesName word (of_rmdir word) es xs room free parts path
-          (λ scene. IsTaken scene parts name directory end × (master_check scene directory.at.pfs.0 ≡ None))
+          (λ scene. IsTakenName scene parts name directory end × (master_check scene directory.at.pfs.0 ≡ None))
           (λ scene. ask_kind is_dir NotDir (object_at scene.view (place_of end.at)))
           (λ reply busy scene set is refuses. rmdir_next busy scene (Some reply) set is.0 is.1
           (stop (rmdir_kind hash word scene parts name directory end is.0 busy (Some reply) refuses)))
           rmdir_both stopped
-          (scenes_so hash course es xs (λ scene. IsTaken scene parts name directory end)
+          (scenes_so hash course es xs (λ scene. IsTakenName scene parts name directory end)
           (λ scene. IsStoppedBy (ask_kind is_dir NotDir (object_at scene.view (place_of end.at))) stopped)
           (λ scene set is. told scene is.read) taken)
 
       module _ (kind : (scene : Scene) → IsRead scene end → ask_kind is_dir NotDir (object_at scene.view (place_of end.at)) ≡ None) where
-        rmdir_then : (busy : Option ℕ) (scene : Scene) (refusal : Check) → IsSet hash course scene → IsTaken scene parts name directory end
+        rmdir_then : (busy : Option ℕ) (scene : Scene) (refusal : Check) → IsSet hash course scene → IsTakenName scene parts name directory end
             → master_check scene directory.at.pfs.0 ≡ None
             → IsFirst (drop 9 (all_checks (call_in hash (Rmdir word) (Parts parts ∷ []) busy scene) room free)) refusal
             → IsFirst (all_checks (call_in hash (Rmdir word) (Parts parts ∷ []) busy scene) room free) refusal
@@ -487,7 +489,7 @@ module _ (hash : List ℕ → ℕ) (id : ℕ) (course : Course) (before : course
             → IsRefused hash id (Rmdir word) es xs room free stopped
         rmdir_empty_refuses stopped told =
             one_refuses hash id course before most (Rmdir word) TakesName word (of_rmdir word) es xs room free parts path
-            (λ scene. IsTaken scene parts name directory end × (master_check scene directory.at.pfs.0 ≡ None)) (λ scene. empty_check scene end)
+            (λ scene. IsTakenName scene parts name directory end × (master_check scene directory.at.pfs.0 ≡ None)) (λ scene. empty_check scene end)
             (λ reply busy scene set is refuses. rmdir_then busy scene (Some reply) set is.0 is.1
             (stop (rmdir_empty hash word scene parts name directory end is.0 busy (Some reply) refuses)))
             rmdir_both stopped told
@@ -496,14 +498,14 @@ module _ (hash : List ℕ → ℕ) (id : ℕ) (course : Course) (before : course
             → IsAcceptedBy hash id (λ call. call.command ≡ Rmdir word) es xs room free Done
         rmdir_accepts empty =
             one_accepts hash id course before most (Rmdir word) TakesName word (of_rmdir word) es xs room free parts path
-            (λ scene. (IsTaken scene parts name directory end × (master_check scene directory.at.pfs.0 ≡ None)) × (empty_check scene end ≡ None)) Done
+            (λ scene. (IsTakenName scene parts name directory end × (master_check scene directory.at.pfs.0 ≡ None)) × (empty_check scene end ≡ None)) Done
             (λ busy scene set is. (
               rmdir_then busy scene None set is.0.0 is.0.1
                   (pass (rmdir_empty hash word scene parts name directory end is.0.0 busy None is.1)
                   (pass refl (pass refl (pass (no_space free) all_pass)))),
               refl,
             ))
-            (scenes_both hash course es xs (λ scene. IsTaken scene parts name directory end × (master_check scene directory.at.pfs.0 ≡ None))
+            (scenes_both hash course es xs (λ scene. IsTakenName scene parts name directory end × (master_check scene directory.at.pfs.0 ≡ None))
             (λ scene. empty_check scene end ≡ None) rmdir_both empty)
 
   -- what `rmdir` wrote is its change
@@ -528,11 +530,11 @@ module _ (hash : List ℕ → ℕ) (id : ℕ) (course : Course) (before : course
       → OnScenes hash es xs course (λ scene. Told (empty_check scene end))
   empty_told es' xs' same same' Told told =
       scenes_so hash course es xs
-      (λ scene. IsTaken scene parts name directory end × ((tree : FileTree) → KeysFit hash scene.elements
+      (λ scene. IsTakenName scene parts name directory end × ((tree : FileTree) → KeysFit hash scene.elements
       → IsViewOf scene.elements end.at.pfs.0 end.as_of.0 tree → Told (refuse_if (nat_lt 0 (length (entries_in tree end.at.object))) NotEmpty)))
       (λ scene. Told (empty_check scene end))
       (λ scene set both. both.1 (scene.view end.at.pfs.0 (when_of end.at.when)) set.keys both.0.read.view)
-      (scenes_both hash course es xs (λ scene. IsTaken scene parts name directory end)
+      (scenes_both hash course es xs (λ scene. IsTakenName scene parts name directory end)
       (λ scene. (tree : FileTree) → KeysFit hash scene.elements → IsViewOf scene.elements end.at.pfs.0 end.as_of.0 tree
       → Told (refuse_if (nat_lt 0 (length (entries_in tree end.at.object))) NotEmpty)) taken
       (scenes_back hash course

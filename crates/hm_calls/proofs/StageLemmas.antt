@@ -15,7 +15,7 @@ use Rattle.hm_key.specs.declared.element.Element.{Element}
 use Rattle.hm_cursor.specs.Told.{Lists, OnBalanced, fulls}
 use Rattle.hm_cursor.proofs.PayloadLemmas.{full_sorted}
 use Rattle.hm_model.specs.Due.{good_path, has_id, is_pfs_call, is_tree_call, no_future, past_stays, refuse_if, walks}
-use Rattle.hm_model.specs.Sites.{At, Located, MakesName, Parsed, Parts, ReadsWords, Site, TakesName, front_of, last_name, locate, standing_name}
+use Rattle.hm_model.specs.Sites.{Located, MakesName, Parsed, Parts, ReadsWords, TakesName, front_of, last_name, locate, standing_name}
 use Rattle.hm_model.specs.View.{View}
 use Rattle.hm_model.specs.Volume.{Volume}
 use Rattle.hm_model.specs.Walk.{Follows, Stays, walk}
@@ -25,7 +25,7 @@ use Rattle.hm_model.specs.declared.reply.Reply.TheVariants.{BadPath, ReadOnly}
 use Rattle.hm_records.proofs.CountsLemmas.{own_keys-sorted}
 use Rattle.hm_records.specs.KeysFit.{KeysFit}
 use Rattle.hm_volume.specs.Shown.{ShowsAs}
-use Rattle.hm_dirs.specs.Walk.{AreDrawn, IsDrawn, IsRead, OnShown, Scene, place_of}
+use Rattle.hm_dirs.specs.Walk.{AreDrawn, IsDrawn, OnShown, Scene}
 use Rattle.hm_dirs.specs.declared.position.Course.{Course}
 use Rattle.hm_dirs.specs.declared.position.Stand.{Stand}
 use Rattle.hm_calls.specs.Changes.{Changes, ChangesTree}
@@ -35,11 +35,11 @@ use Rattle.hm_calls.specs.Replies.{Acts}
 use Rattle.hm_calls.specs.Stop.{Answers, Decides, OfRefusal}
 use Rattle.hm_calls.specs.declared.stop.Stop.{Stop}
 use Rattle.hm_calls.specs.declared.stop.Stop.TheVariants.{Failed, Refused}
-use Rattle.hm_calls.proofs.NowLemmas.{IsStanding, part_has_id, stands}
+use Rattle.hm_calls.proofs.NowLemmas.{part_has_id, stands}
 use Rattle.hm_calls.proofs.RefusalLemmas.{IsRefused, PassEarly, refuse_one}
 use Rattle.hm_calls.proofs.SceneLemmas.{IsSet, IsStoppedBy, OnScenes, answered, call_in, call_set, call_so, named, scene_in, scenes_back}
 use Rattle.hm_calls.proofs.SceneLemmas.{scenes_shown, scenes_so, unnamed}
-pub use Rattle.hm_calls.specs.Scenes.{slave_check}
+pub use Rattle.hm_calls.specs.Scenes.{IsTakenName, slave_check}
 
 -- ---- answers
 
@@ -199,16 +199,6 @@ module _ (hash : List ℕ → ℕ) (course : Course) (es es' : Option (List Elem
 
 -- ---- a name that is taken
 
--- a walk found the name: its directory, and the object that it leads to
-pub record IsTaken (scene : Scene) (parts : List Part) (name : List ℕ) (directory end : Stand) : Type 0 where
-  pub site : Site
-  pub place_is : locate scene.volume scene.view TakesName parts ≡ At site
-  pub name_is : site.name ≡ name
-  pub standing : IsStanding scene.view name site.directory site.at
-  pub directory_is : place_of directory.at ≡ site.directory
-  pub end_is : place_of end.at ≡ site.at
-  pub read : IsRead scene end
-
 module _ (hash : List ℕ → ℕ) (course : Course) (es : Option (List Element)) (xs : Option (List Extent)) (parts : List Part) (name : List ℕ)
     (named_is : last_name parts ≡ Some name) (none : has_id (Parts parts) ≡ false) where
   -- where the name stands, as the model has it
@@ -232,9 +222,9 @@ module _ (hash : List ℕ → ℕ) (course : Course) (es : Option (List Element)
       (scenes_shown hash course es xs (IsSought (Err stopped)) told)
 
   pub taken : (pair : Stand × Stand) → OnShown es xs course (λ scene. KeysFit hash scene.elements → IsSought (Ok pair) scene)
-      → OnScenes hash es xs course (λ scene. IsTaken scene parts name pair.0 pair.1)
+      → OnScenes hash es xs course (λ scene. IsTakenName scene parts name pair.0 pair.1)
   taken pair told =
-      scenes_so hash course es xs (IsSought (Ok pair)) (λ scene. IsTaken scene parts name pair.0 pair.1)
+      scenes_so hash course es xs (IsSought (Ok pair)) (λ scene. IsTakenName scene parts name pair.0 pair.1)
       (λ scene set told.
       let is = named scene name (place_of_name scene name) pair (told (drawn_now scene.course.last parts none) name named_is) in
       let stands_is = stands scene.volume scene.view parts name is.site none named_is (place_same scene ∙ is.place_is) in

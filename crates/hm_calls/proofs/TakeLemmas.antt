@@ -1,5 +1,5 @@
 -- What a call takes of the space, from what its steps do.
-use Rattle.std.proofs.Common.{◌≡◌, ℕ, ◌+◌, ◌<◌, ◌≤◌, Bool, true, false, Result, Ok, Err, refl, subst, sym, ◌∙◌, arith}
+use Rattle.std.proofs.Common.{◌≡◌, ℕ, ◌+◌, ◌<◌, ◌≤◌, Bool, true, false, Result, Ok, Err, refl, subst, ◌∙◌, arith}
 use Rattle.std.specs.Prelude.{if◌then◌else◌, nat_eq}
 use Rattle.hm_types.specs.Space.{Spends, nothing, reserve_of}
 use Rattle.hm_types.specs.declared.limits.TheConstants.{BIGBLOCK_BYTES}
@@ -83,11 +83,3 @@ module _ {S : Type 0} (room_of : S → ℕ → ℕ) (free_of : S → ℕ) where
     room = λ zone. subst (λ (r : ℕ → ℕ). r zone ≤ room_of t zone + most zone) room (omega arith);
     charges = tt;
   }
-
-  -- a step of it fails after steps that left the space as it was
-  pub takes_failed : (most : ℕ → ℕ) (s t u : S) {A E : Type 0} (result : Result A E) (e : E) → result ≡ Err e → room_of t ≡ room_of s
-      → ((zone : ℕ) → room_of t zone ≤ room_of u zone + most zone) → TakesAtMost room_of free_of most s u result
-  takes_failed most s t u result e is room lowers = subst (λ r. TakesAtMost room_of free_of most s u r) (sym is) (record {
-    room = λ zone. subst (λ (r : ℕ → ℕ). r zone ≤ room_of u zone + most zone) room (lowers zone);
-    charges = tt;
-  })

@@ -1,5 +1,5 @@
 -- Which replies a call can give, whatever the store tells.
-use Rattle.std.specs.Prelude.{◌≡◌, ◌⊎◌, ℕ, ◌-◌, List, Option, Result, Ok, Err, Bool, IsTrue}
+use Rattle.std.specs.Prelude.{ℕ, ◌-◌, List, Option, Result, Ok, Err, Bool, IsTrue}
 use Rattle.hm_model.specs.Caused.{IsPossible, possible}
 use Rattle.hm_model.specs.Due.{early_checks, first_refusal}
 use Rattle.hm_model.specs.Sites.{Parsed, ReadsWords}
@@ -170,10 +170,3 @@ IsNoSpace (EndPruned end first) = ⊥
 IsNoSpace (Busy opening) = ⊥
 IsNoSpace NotLink = ⊥
 IsNoSpace NotFile = ⊥
-
--- the refusals of a move to a name that is not there yet, and of one to a name that leads to an object
-abbrev pub RefusesBeside : Reply → Type 0
-RefusesBeside reply = (reply ≡ HashFull) ⊎ IsNoSpace reply
-
-abbrev pub RefusesOver : Reply → Type 0
-RefusesOver reply = (reply ≡ Exists) ⊎ IsNoSpace reply

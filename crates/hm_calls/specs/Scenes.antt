@@ -4,6 +4,7 @@ use Rattle.std.specs.Bool.{nat_le}
 use Rattle.std.specs.Option.{option_map_or}
 use Rattle.hm_types.specs.Elements.{FullElement}
 use Rattle.hm_types.specs.Tree.{FileTree, named_in}
+use Rattle.hm_types.specs.declared.id.Obj.{Obj}
 use Rattle.hm_types.specs.declared.object.Object.{Object}
 use Rattle.hm_path.specs.declared.part.Part.{Part}
 use Rattle.hm_key.specs.Extents.{Extent}
@@ -12,7 +13,7 @@ use Rattle.hm_cursor.specs.Told.{OnBalanced, fulls}
 use Rattle.hm_model.specs.Answer.{is_master}
 use Rattle.hm_model.specs.Call.{Call}
 use Rattle.hm_model.specs.Due.{Check, refuse_if}
-use Rattle.hm_model.specs.Sites.{At, MakesName, Parsed, Site, locate}
+use Rattle.hm_model.specs.Sites.{At, MakesName, Parsed, Site, TakesName, locate}
 use Rattle.hm_model.specs.View.{Now, Position, View, object_at}
 use Rattle.hm_model.specs.Volume.{Volume, system_of}
 use Rattle.hm_model.specs.Walk.{Follow as Mode, Passed, Reaches, Walked}
@@ -21,7 +22,7 @@ use Rattle.hm_model.specs.declared.reply.Reply.TheVariants.{Exists, HashFull, Re
 use Rattle.hm_records.specs.KeysFit.{KeysFit}
 use Rattle.hm_volume.specs.Shown.{ShowsAs}
 use Rattle.hm_dirs.specs.Names.{names_of_hash}
-use Rattle.hm_dirs.specs.Walk.{EndsAt, IsTold, Scene, place_of, when_of}
+use Rattle.hm_dirs.specs.Walk.{EndsAt, IsRead, IsTold, Scene, place_of, when_of}
 use Rattle.hm_dirs.specs.declared.position.Course.{Course}
 use Rattle.hm_dirs.specs.declared.position.Stand.{Stand}
 
@@ -56,6 +57,25 @@ pub record IsEnd (scene : Scene) (mode : Mode) (walked : Walked) (stand : Stand)
   pub passed : Passed
   pub walked_is : walked ≡ Reaches here passed
   pub ends : EndsAt scene mode here passed stand
+
+-- a name that stands there: the directory and the object that it leads to, of what is shown now
+pub record IsStanding (view : View) (name : List ℕ) (directory at : Position) : Type 0 where
+  pub now : directory.when ≡ Now
+  pub number : Obj
+  pub named : named_in (view directory.pfs Now) directory.object name ≡ Some number
+  pub at_is : at ≡ record directory { object = number }
+  pub object : Object
+  pub there : object_at view at ≡ Some object
+
+-- a walk found the name: its directory, and the object that it leads to
+pub record IsTakenName (scene : Scene) (parts : List Part) (name : List ℕ) (directory end : Stand) : Type 0 where
+  pub site : Site
+  pub place_is : locate scene.volume scene.view TakesName parts ≡ At site
+  pub name_is : site.name ≡ name
+  pub standing : IsStanding scene.view name site.directory site.at
+  pub directory_is : place_of directory.at ≡ site.directory
+  pub end_is : place_of end.at ≡ site.at
+  pub read : IsRead scene end
 
 -- the walk before a new name led to this directory, which is seen now
 pub record IsNewPlace (scene : Scene) (parts : List Part) (name : List ℕ) (directory : Stand) : Type 0 where

@@ -1,6 +1,6 @@
 // Checks of an object's kind, by its inode.
 ghost use Rattle.std.specs.Prelude.{◌≡◌, ◌<◌, ◌≤◌, ◌^◌, ◌-◌, Option, None, Some, false};
-ghost use Rattle.std.specs.Prelude.{if◌then◌else◌, is_some, option_map, IfErr, IfSome, OnOk};
+ghost use Rattle.std.specs.Prelude.{if◌then◌else◌, is_some, option_map, IfErr, IfOk, IfSome, OnOk};
 ghost use Rattle.std.specs.Bool.{nat_le};
 ghost use Rattle.std.specs.Option.{option_map_or};
 ghost use Rattle.hm_types.specs.declared.object.Object.{Object};
@@ -101,20 +101,24 @@ fn kind_of(stand: &Stand) -> Option<u8>
     stand.inode.map(|inode| inode.kind)
 }
 
-// `exists` where what stands under a new name does not give way to the object that is moved there: it
-// does where it is that object, or is neither a directory nor a PFS link and the moved one is no
-// directory.
-pub(crate) fn check_way(moved: &Stand, there: Obj, inode: Option<Inode>) -> Result<(), Stop>
+// The inode of what stands under a new name and gives way to the object that is moved there: it does
+// where it is that object, or is neither a directory nor a PFS link and the moved one is no directory.
+// Else `exists`.
+pub(crate) fn check_way(moved: &Stand, there: Obj, inode: Option<Inode>) -> Result<Inode, Stop>
     ensures check { (scene : Scene) (call : Call) (o : Option Object) → IsRead scene moved.now →
         IsFoundBy (Counts scene.elements moved.now.as_of.0) moved.now.at.pfs.0 o inode →
         IfSome o (λ found. found.number.0 ≡ there.0) →
         Decides (if option_map_or (λ found. option_map_or (λ m. gives_way call m found)
         (object_at scene.view (place_of moved.now.at)) false) o false then None else Some exists) result }
+    ensures inode { IfOk result (λ found. inode ≡ Some found) }
     ensures gives { IfRefused result (λ reply. reply ≡ exists) }
     ensures failed { IfErr result (OfFault (λ _. ⊥)) }
 {
+    let Some(found) = inode else {
+        return Err(Stop::Refused(Reply::Exists));
+    };
     if gives_way(moved.inode, inode, there.0 == moved.at.object.0) {
-        Ok(())
+        Ok(found)
     } else {
         Err(Stop::Refused(Reply::Exists))
     }

@@ -1,41 +1,41 @@
 // `mv`: a new name in place of an old one.
-ghost use Rattle.std.specs.Prelude.{◌≡◌, ◌≤◌, ℕ, List, [], ◌∷◌, OnOk, IfOk, ◌+◌};
-ghost use Rattle.std.specs.Bool.{nat_le};
-ghost use Rattle.hm_types.specs.Tree.{FileTree};
+ghost use Rattle.std.specs.Prelude.{◌≡◌, ◌≤◌, ℕ, List, [], ◌∷◌, Option, None, OnOk, IfOk, ◌+◌, Some};
+ghost use Rattle.hm_types.specs.Space.{nothing};
 ghost use Rattle.hm_types.specs.declared.limits.TheConstants.{GREATEST_ID};
+ghost use Rattle.hm_path.specs.declared.part.Part.{Part as PathPart};
 ghost use Rattle.hm_key.specs.Balance.{Balanced};
-ghost use Rattle.hm_key.specs.Stores.{Keeps, Same};
-ghost use Rattle.hm_cursor.specs.Told.{OnBalanced, fulls};
-ghost use Rattle.hm_cursor.specs.Write.{Writes};
+ghost use Rattle.hm_key.specs.Stores.{Keeps, Same, SameContent};
 ghost use Rattle.hm_model.specs.Call.{Call};
-ghost use Rattle.hm_model.specs.Due.{first_refusal, refuse_if};
-ghost use Rattle.hm_model.specs.Needs.{names_zones};
+ghost use Rattle.hm_model.specs.Due.{refuse_if};
+ghost use Rattle.hm_model.specs.Sites.{Parts, last_name};
 ghost use Rattle.hm_model.specs.declared.command.Command.TheVariants.{Mv as mv};
-ghost use Rattle.hm_model.specs.declared.reply.Reply.TheVariants.{Done as done, HashFull as hash_full};
-ghost use Rattle.hm_records.specs.View.{IsViewOf};
-ghost use Rattle.hm_dirs.specs.Names.{OnNamed, names_of_hash};
-ghost use Rattle.hm_dirs.specs.Walk.{IsRead, Scene};
-ghost use Rattle.hm_calls.specs.Due.{space_for};
+ghost use Rattle.hm_model.specs.declared.reply.Reply.TheVariants.{Done as done, IntoItself as into_itself};
+ghost use Rattle.hm_dirs.specs.declared.position.Course.{Course as Way};
 ghost use Rattle.hm_calls.specs.Known.{AreBelowIn, AreKnown};
-ghost use Rattle.hm_calls.specs.Moves.{IsMovedOver, MovesBeside, over_checks};
-ghost use Rattle.hm_calls.specs.Possible.{Gives, RefusesBeside, RefusesOver};
+ghost use Rattle.hm_calls.specs.Links.{AreSeen};
+ghost use Rattle.hm_calls.specs.Moves.{HasRoomToMove, IsMovable, IsMoveOf, LeadsBy, TellsMoved, beside_checks, leads_to, move_checks, on_a_move, over_checks, seen_of};
+ghost use Rattle.hm_calls.specs.Possible.{Gives};
 ghost use Rattle.hm_calls.specs.Replies.{Acts};
+ghost use Rattle.hm_calls.specs.Scenes.{InScenes, call_in};
 ghost use Rattle.hm_calls.specs.Space.{TakesAtMost};
-ghost use Rattle.hm_calls.specs.Stop.{Answers, HasStopCause, IfRefused};
-ghost use Rattle.hm_calls.specs.Writes.{AreOlderAround, IsMoving, place_of_name, reserves};
+ghost use Rattle.hm_calls.specs.Stages.{AnswersAll, IsAmong, IsNewName, place_checks};
+ghost use Rattle.hm_calls.specs.Stop.{Decides, HasStopCause, IfRefused};
+ghost use Rattle.hm_calls.specs.Writes.{reserves};
 
-use crate::checks::{check_master, check_one_pfs, find_entry, spot_in};
+use crate::checks::{check_one_pfs, find_entry, spot_in};
 use crate::course::{NAMES_HELD, course_before, read_last};
 use crate::kinds::{check_way, moved_of};
 use crate::places::{reach_directory, reach_name};
-use crate::rename::{Moved, Named, Replaced, rename, replace};
+use crate::rename::{Move, Moved, Named, Replaced, write_move};
 use crate::room::admit_names;
+use crate::stages::{NewName, check_masters, check_words};
 use crate::stop::Stop;
-use crate::words::{check_future, check_present, named_end, read_path};
+use crate::words::{named_end, read_path};
 use hm_cursor::find_inode;
-use hm_dirs::{NameHash, Stand};
+use hm_dirs::{Course, NameHash, Stand};
 use hm_key::{ElementStore, Extents, HasElements, HasRoom};
 use hm_model::Reply;
+use hm_path::Part;
 use hm_types::{Counted, Id, Name, Obj, Text};
 use std::alloc::Global;
 
@@ -68,127 +68,204 @@ pub(crate) fn move_to<T: ElementStore + Extents, H: NameHash>(
     let (_, old_name) = named_end(parts)?;
     let new = read_path(alloc, new)?;
     let more = new.parts();
-    let (front, new_name) = named_end(more)?;
-    check_future(parts, course.last)?;
-    check_future(more, course.last)?;
-    check_present(parts)?;
-    check_present(more)?;
-    let (from, object) = reach_name(alloc, store, hash, parts, course)?;
-    let watching = course_before(id, Some((object.at.pfs, object.at.object)));
-    let to = reach_directory(alloc, store, hash, front, watching)?;
-    check_master(alloc, store, from.at.pfs)?;
-    check_master(alloc, store, to.at.pfs)?;
-    let to = read_last(to, watching);
-    check_one_pfs(&from, &to)?;
-    if to.passed {
-        return Err(Stop::Refused(Reply::IntoItself));
-    }
-    let Some(moved) = moved_of(&object) else {
-        return Err(Stop::Refused(Reply::NotFound));
+    let named = check_words(parts, more, course.last)?;
+    let found = reach_moved(alloc, store, hash, parts, named, course)?;
+    let change = check_moved(alloc, store, hash, &found, named.name)?;
+    let from = Named {
+        directory: &found.from,
+        name: old_name,
     };
-    let (old, new) = (named(&from, old_name), named(&to, new_name));
-    let Some((key, there)) = find_entry(store, hash, &to, new_name.bytes())? else {
-        move_beside(alloc, store, hash, old, new, moved, id)?;
-        return Ok(Reply::Done);
+    let to = Named {
+        directory: &found.to,
+        name: named.name,
     };
-    move_over(alloc, store, hash, old, new, moved, &object, key, there, id)?;
+    write_move(alloc, store, hash, from, to, found.moved, change, id)?;
     Ok(Reply::Done)
 }
 
-// A name in the directory that a walk came to.
-fn named<'a>(directory: &'a Stand, name: &'a Name) -> Named<'a>
-    ensures { (result.directory.now ≡ directory.now) × (result.name.now ≡ name.now) }
-{
-    Named { directory, name }
+// Where the paths lead: to the directory of the old name and the object there, and to the directory
+// of the new name.
+#[derive(Clone, Copy)]
+pub(crate) struct Moving {
+    pub from: Stand,
+    pub object: Stand,
+    pub moved: Moved,
+    pub to: Stand,
 }
 
-// To a name that is not there yet.
-fn move_beside<T: ElementStore + Extents, H: NameHash>(
+// These places, none of which lies in a slave. The walk to the new name watches for the object.
+fn reach_moved<T: ElementStore + Extents, H: NameHash>(
     alloc: Global,
     store: &mut T,
     hash: &H,
-    old: Named,
-    new: Named,
-    moved: Moved,
-    id: Id,
-) -> Result<(), Stop>
-    requires id { 1 ≤ id.0 }
-    requires values { IsMoving old new moved }
+    parts: &[Part],
+    new: NewName,
+    course: Course,
+) -> Result<Moving, Stop>
     requires balanced { Balanced (T.elements store.old) (T.extents store.old) }
-    requires older { AreOlderAround (T.elements store.old) (T.extents store.old) old new id.0 }
-    ensures check { OnNamed (H.hash_of hash.now) (T.elements store.old) (T.extents store.old) (λ lists.
-        (tree : FileTree) →
-        IsViewOf (fulls lists) new.entry.directory.now.at.pfs.0 new.entry.directory.now.as_of.0 tree →
-        Answers (first_refusal (refuse_if (nat_le 1024 (names_of_hash (H.hash_of hash.now) tree
-        new.entry.directory.now.at.object new.entry.name.now)) hash_full
-        ∷ space_for names_zones 4 (T.room store.old) (T.free store.old) ∷ [])) result) }
+    ensures places { (old word name : List ℕ) (more : List PathPart) →
+        last_name parts.now ≡ Some name → IsNewName parts.now more new.entry →
+        InScenes (H.hash_of hash.now) course (T.elements store.old) (T.extents store.old) (λ scene.
+        (busy : Option ℕ) → AnswersAll (place_checks (call_in (H.hash_of hash.now) (mv old word)
+        (Parts parts.now ∷ Parts more ∷ []) busy scene)) result) }
+    ensures found { IfOk result (λ found. (name : List ℕ) (more : List PathPart) (id : ℕ) →
+        last_name parts.now ≡ Some name → IsNewName parts.now more new.entry →
+        AreKnown (T.elements store.old) (T.extents store.old) id →
+        InScenes (H.hash_of hash.now) course (T.elements store.old) (T.extents store.old)
+        (IsMovable parts.now more id name new.entry.name.now found)) }
+    ensures moved { IfOk result TellsMoved }
+    ensures below { IfOk result (λ found. (id : ℕ) →
+        AreKnown (T.elements store.old) (T.extents store.old) id →
+        AreBelowIn (T.elements store.old) (T.extents store.old) found.to.at.pfs.0 id) }
+    ensures gives { (name : List ℕ) (more : List PathPart) → last_name parts.now ≡ Some name →
+        IsNewName parts.now more new.entry → IfRefused result (IsAmong on_a_move) }
+    ensures keeps { Same T.elements T.mark T.extents T.room T.free store.old store.new }
+    ensures borrowed { (T.name store.new ≡ T.name store.old)
+        × (T.frame store.new ≡ T.frame store.old) }
+    ensures cause { HasStopCause (T.elements store.old) (T.extents store.old)
+        (T.faults store.old) (T.faults store.new) result }
+{
+    let (from, object) = reach_name(alloc, store, hash, parts, course)?;
+    let Some(moved) = moved_of(&object) else {
+        return Err(Stop::Refused(Reply::NotFound));
+    };
+    let watching = Course {
+        watch: Some((object.at.pfs, object.at.object)),
+        ..course
+    };
+    let to = reach_directory(alloc, store, hash, new.front, watching)?;
+    check_masters(alloc, store, from.at.pfs, to.at.pfs)?;
+    Ok(Moving {
+        from,
+        object,
+        moved,
+        to: read_last(to, course),
+    })
+}
+
+// The checks of these places, and room: what the move comes to.
+fn check_moved<T: ElementStore + Extents, H: NameHash>(
+    alloc: Global,
+    store: &mut T,
+    hash: &H,
+    found: &Moving,
+    name: &Name,
+) -> Result<Move, Stop>
+    requires balanced { Balanced (T.elements store.old) (T.extents store.old) }
+    ensures checks { (course : Way) →
+        InScenes (H.hash_of hash.now) course (T.elements store.old) (T.extents store.old)
+        (AreSeen (seen_of found.now)) →
+        InScenes (H.hash_of hash.now) course (T.elements store.old) (T.extents store.old) (λ scene.
+        (call : Call) → AnswersAll (move_checks (H.hash_of hash.now) (T.room store.old)
+        (T.free store.old) name.now found.now.from found.now.object found.now.to call scene) result) }
+    ensures change { IfOk result (λ change. (course : Way) →
+        InScenes (H.hash_of hash.now) course (T.elements store.old) (T.extents store.old)
+        (AreSeen (seen_of found.now)) →
+        InScenes (H.hash_of hash.now) course (T.elements store.old) (T.extents store.old)
+        (IsMoveOf (H.hash_of hash.now) name.now found.now change)) }
+    ensures one_pfs { OnOk result (found.now.from.at.pfs ≡ found.now.to.at.pfs) }
+    ensures gives { IfRefused result (IsAmong on_a_move) }
+    ensures reserves { IfOk result (λ change. HasRoomToMove change (T.room store.new)) }
+    ensures content { OnOk result (SameContent T.elements T.mark T.extents store.old store.new) }
     ensures refused { IfRefused result (λ _.
         Same T.elements T.mark T.extents T.room T.free store.old store.new) }
-    ensures ok { OnOk result (Writes T.elements T.extents
-        (MovesBeside (H.hash_of hash.now) (place_of_name old.entry) (place_of_name new.entry)
-        new.entry.directory.now.as_of.0 id.0 moved.obj moved.kind) store.old store.new) }
-    ensures gives { IfRefused result RefusesBeside }
-    ensures keeps { Keeps T.elements T.extents store.old store.new result }
-    ensures room { TakesAtMost T.room T.free reserves store.old store.new result
+    ensures room { TakesAtMost T.room T.free nothing store.old store.new result
         × (T.name store.new ≡ T.name store.old) × (T.frame store.new ≡ T.frame store.old) }
     ensures cause { HasStopCause (T.elements store.old) (T.extents store.old)
         (T.faults store.old) (T.faults store.new) result }
 {
-    let spot = spot_in(alloc, store, hash, new.directory, new.name)?;
-    admit_names(store, NAMES_HELD)?;
-    rename(alloc, store, hash, old, new, spot, moved, id)?;
-    Ok(())
+    check_one_pfs(&found.from, &found.to)?;
+    check_passed(&found.to)?;
+    match find_entry(store, hash, &found.to, name.bytes())? {
+        None => check_beside(alloc, store, hash, found, name),
+        Some((key, there)) => check_over(store, found, key, there),
+    }
 }
 
-// To a name that leads to an object, by an entry under a key: where that object is the moved one,
-// nothing changes; else it must give way.
-fn move_over<T: ElementStore + Extents, H: NameHash>(
+// Beside the names that are there: that those of its hash leave a key, and room.
+fn check_beside<T: ElementStore + Extents, H: NameHash>(
     alloc: Global,
     store: &mut T,
     hash: &H,
-    old: Named,
-    new: Named,
-    moved: Moved,
-    object: &Stand,
+    found: &Moving,
+    name: &Name,
+) -> Result<Move, Stop>
+    requires balanced { Balanced (T.elements store.old) (T.extents store.old) }
+    ensures checks { (course : Way) →
+        InScenes (H.hash_of hash.now) course (T.elements store.old) (T.extents store.old)
+        (AreSeen (seen_of found.now)) →
+        InScenes (H.hash_of hash.now) course (T.elements store.old) (T.extents store.old) (λ scene.
+        AnswersAll (beside_checks (H.hash_of hash.now) (T.room store.old) (T.free store.old) name.now
+        found.now.to scene) result) }
+    ensures change { IfOk result (λ change. (course : Way) →
+        InScenes (H.hash_of hash.now) course (T.elements store.old) (T.extents store.old)
+        (AreSeen (seen_of found.now)) →
+        InScenes (H.hash_of hash.now) course (T.elements store.old) (T.extents store.old) (λ scene.
+        leads_to scene found.now.to name.now ≡ None →
+        IsMoveOf (H.hash_of hash.now) name.now found.now change scene)) }
+    ensures gives { IfRefused result (IsAmong on_a_move) }
+    ensures reserves { IfOk result (λ change. HasRoomToMove change (T.room store.new)) }
+    ensures content { OnOk result (SameContent T.elements T.mark T.extents store.old store.new) }
+    ensures refused { IfRefused result (λ _.
+        Same T.elements T.mark T.extents T.room T.free store.old store.new) }
+    ensures room { TakesAtMost T.room T.free nothing store.old store.new result
+        × (T.name store.new ≡ T.name store.old) × (T.frame store.new ≡ T.frame store.old) }
+    ensures cause { HasStopCause (T.elements store.old) (T.extents store.old)
+        (T.faults store.old) (T.faults store.new) result }
+{
+    let spot = spot_in(alloc, store, hash, &found.to, name)?;
+    admit_names(store, NAMES_HELD)?;
+    Ok(Move::Beside(spot))
+}
+
+// Where the new name leads to an object: that it gives way, and room unless it is the moved one.
+fn check_over<T: ElementStore + Extents>(
+    store: &mut T,
+    found: &Moving,
     key: u64,
     there: Obj,
-    id: Id,
-) -> Result<(), Stop>
-    requires id { 1 ≤ id.0 }
-    requires values { IsMoving old new moved }
+) -> Result<Move, Stop>
     requires balanced { Balanced (T.elements store.old) (T.extents store.old) }
-    requires below { AreBelowIn (T.elements store.old) (T.extents store.old)
-        new.directory.now.at.pfs.0 id.0 }
-    ensures check { OnBalanced (T.elements store.old) (T.extents store.old) (λ lists.
-        (scene : Scene) (call : Call) → scene.elements ≡ fulls lists → IsRead scene object.now →
-        Answers (first_refusal (over_checks call scene object.now there (T.room store.old)
-        (T.free store.old))) result) }
+    ensures checks { (hash : List ℕ → ℕ) (course : Way) →
+        InScenes hash course (T.elements store.old) (T.extents store.old) (AreSeen (seen_of found.now)) →
+        InScenes hash course (T.elements store.old) (T.extents store.old) (λ scene. (call : Call) →
+        AnswersAll (over_checks call scene found.now.object there (T.room store.old) (T.free store.old))
+        result) }
+    ensures change { IfOk result (λ change. (hash : List ℕ → ℕ) (course : Way) (name : List ℕ) →
+        InScenes hash course (T.elements store.old) (T.extents store.old) (AreSeen (seen_of found.now)) →
+        InScenes hash course (T.elements store.old) (T.extents store.old) (λ scene.
+        LeadsBy name found.now key there scene → IsMoveOf hash name found.now change scene)) }
+    ensures gives { IfRefused result (IsAmong on_a_move) }
+    ensures reserves { IfOk result (λ change. HasRoomToMove change (T.room store.new)) }
+    ensures content { OnOk result (SameContent T.elements T.mark T.extents store.old store.new) }
     ensures refused { IfRefused result (λ _.
         Same T.elements T.mark T.extents T.room T.free store.old store.new) }
-    ensures ok { OnOk result (Writes T.elements T.extents
-        (IsMovedOver (H.hash_of hash.now) (place_of_name old.entry) (place_of_name new.entry) key id.0
-        object.now moved.obj moved.kind there) store.old store.new) }
-    ensures gives { IfRefused result RefusesOver }
-    ensures keeps { Keeps T.elements T.extents store.old store.new result }
-    ensures room { TakesAtMost T.room T.free reserves store.old store.new result
+    ensures room { TakesAtMost T.room T.free nothing store.old store.new result
         × (T.name store.new ≡ T.name store.old) × (T.frame store.new ≡ T.frame store.old) }
     ensures cause { HasStopCause (T.elements store.old) (T.extents store.old)
         (T.faults store.old) (T.faults store.new) result }
 {
-    let inode = find_inode(store, object.at.pfs, there, object.as_of)?;
-    check_way(object, there, inode)?;
-    let Some(inode) = inode else {
-        return Err(Stop::Refused(Reply::Exists));
-    };
+    let object = &found.object;
+    let answer = find_inode(store, object.at.pfs, there, object.as_of)?;
+    let inode = check_way(object, there, answer)?;
     if there.0 == object.at.object.0 {
-        return Ok(());
+        return Ok(Move::Itself);
     }
     admit_names(store, NAMES_HELD)?;
-    let there = Replaced {
+    Ok(Move::Over(Replaced {
         obj: there,
         links: inode.links,
         key,
-    };
-    replace(alloc, store, hash, old, new, there, moved, id)?;
+    }))
+}
+
+// `into itself` where the walk to a new name passed the object that it watched for.
+fn check_passed(to: &Stand) -> Result<(), Stop>
+    ensures check { Decides (refuse_if to.now.passed into_itself) result }
+    ensures gives { IfRefused result (λ reply. reply ≡ into_itself) }
+{
+    if to.passed {
+        return Err(Stop::Refused(Reply::IntoItself));
+    }
     Ok(())
 }

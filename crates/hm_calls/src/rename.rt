@@ -7,6 +7,7 @@ ghost use Rattle.hm_key.specs.Stores.{Keeps};
 ghost use Rattle.hm_cursor.specs.Told.{HasReadingCause};
 ghost use Rattle.hm_cursor.specs.Write.{Writes};
 ghost use Rattle.hm_calls.specs.Known.{AreBelowIn};
+ghost use Rattle.hm_calls.specs.Moves.{HasRoomToMove, WritesMove};
 ghost use Rattle.hm_calls.specs.Writes.{AreOlderAround, HasReserves, IsMoving, Renames, ReplacesName, place_of_name, reserves};
 
 use crate::put::put_name;
@@ -30,8 +31,51 @@ pub(crate) struct Moved {
     pub kind: u8,
 }
 
+// What a move comes to: nothing, where the new name leads to the object already; a new name at a spot
+// for it; or one in place of another object's.
+#[derive(Clone, Copy)]
+pub(crate) enum Move {
+    Itself,
+    Beside(Spot),
+    Over(Replaced),
+}
+
+// Writes what a move comes to, within one pseudo file system.
+pub(crate) fn write_move<T: ElementStore + Extents, H: NameHash>(
+    alloc: Global,
+    store: &mut T,
+    hash: &H,
+    old: Named,
+    new: Named,
+    moved: Moved,
+    change: Move,
+    id: Id,
+) -> Result<(), Fault>
+    requires id { 1 ≤ id.0 }
+    requires values { IsMoving old new moved }
+    requires balanced { Balanced (T.elements store.old) (T.extents store.old) }
+    requires below { AreBelowIn (T.elements store.old) (T.extents store.old)
+        new.directory.now.at.pfs.0 id.0 }
+    requires room { HasRoomToMove change (T.room store.old) }
+    ensures ok { OnOk result (Writes T.elements T.extents
+        (WritesMove (H.hash_of hash.now) (place_of_name old.entry) (place_of_name new.entry) id.0
+        moved change) store.old store.new) }
+    ensures keeps { Keeps T.elements T.extents store.old store.new result }
+    ensures space { Spends T.room T.free reserves store.old store.new }
+    ensures borrowed { (T.name store.new ≡ T.name store.old)
+        × (T.frame store.new ≡ T.frame store.old) }
+    ensures cause { HasReadingCause (T.elements store.old) (T.extents store.old)
+        (T.faults store.old) (T.faults store.new) result }
+{
+    match change {
+        Move::Itself => Ok(()),
+        Move::Beside(spot) => rename(alloc, store, hash, old, new, spot, moved, id),
+        Move::Over(there) => replace(alloc, store, hash, old, new, there, moved, id),
+    }
+}
+
 // Gives an object another name in place of the one that it has, in the same pseudo file system.
-pub(crate) fn rename<T: ElementStore + Extents, H: NameHash>(
+fn rename<T: ElementStore + Extents, H: NameHash>(
     alloc: Global,
     store: &mut T,
     hash: &H,
@@ -87,7 +131,7 @@ pub(crate) struct Replaced {
 }
 
 // The same, where the new name leads to another object, which loses a link by that.
-pub(crate) fn replace<T: ElementStore + Extents, H: NameHash>(
+fn replace<T: ElementStore + Extents, H: NameHash>(
     alloc: Global,
     store: &mut T,
     hash: &H,

@@ -65,5 +65,8 @@ pub(crate) fn check_masters<T: ElementStore + Extents>(
         (T.faults store.old) (T.faults store.new) result }
 {
     check_master(alloc, store, one)?;
+    if one.0 == two.0 {
+        return Ok(());
+    }
     check_master(alloc, store, two)
 }
