@@ -68,32 +68,3 @@ impl Sink for MemSink {
         self.calls.faults()
     }
 }
-
-#[cfg(test)]
-mod tests {
-    use super::*;
-    use std::test::Fail;
-
-    #[test]
-    fn appends_pieces_and_keeps_the_first_half_of_those_that_fail(
-        rt: HostRuntime,
-    ) -> Result<(), Fail> {
-        let cases: [(&[u64], &str, [bool; 3], u64); 5] = [
-            (&[], "onethreefive", [true, true, true], 0),
-            (&[1], "othreefive", [false, true, true], 1),
-            (&[2, 0], "onethfive", [true, false, true], 1),
-            (&[3, 3], "onethreefi", [true, true, false], 1),
-            (&[3, 2, 1], "othfi", [false, false, false], 3),
-        ];
-        for (fails, held, answers, faults) in cases {
-            let mut sink = MemSink::new(rt.alloc(), fails.to_vec(rt.alloc())?);
-            for (piece, want) in ["one", "three", "five"].iter().zip(answers) {
-                let answer = sink.put(piece.as_bytes());
-                assert_eq!(rt; answer.is_ok(), want, "{piece} with {fails:?}");
-            }
-            assert_eq!(rt; sink.bytes(), held.as_bytes());
-            assert_eq!(rt; sink.faults(), faults, "with {fails:?}");
-        }
-        Ok(())
-    }
-}

@@ -61,38 +61,3 @@ impl Source for MemSource {
         self.calls.faults()
     }
 }
-
-#[cfg(test)]
-mod tests {
-    use super::*;
-    use std::test::Fail;
-
-    #[test]
-    fn gives_its_bytes_in_order_and_fails_at_the_listed_calls(rt: HostRuntime) -> Result<(), Fail> {
-        let cases: [(&[u64], [Option<usize>; 5], u64); 5] = [
-            (&[], [Some(2), Some(2), Some(1), Some(0), Some(0)], 0),
-            (&[1], [None, Some(2), Some(2), Some(1), Some(0)], 1),
-            (&[2], [Some(2), None, Some(2), Some(1), Some(0)], 1),
-            (&[4, 0], [Some(2), Some(2), Some(1), None, Some(0)], 1),
-            (&[3, 1, 3], [None, Some(2), None, Some(2), Some(1)], 2),
-        ];
-        for (fails, answers, faults) in cases {
-            let mut source = MemSource::new(
-                b"hello".to_vec(rt.alloc())?,
-                fails.to_vec(rt.alloc())?,
-            );
-            let mut given = Vec::new(rt.alloc());
-            for want in answers {
-                let mut buf = [0; 2];
-                let answer = source.take(&mut buf);
-                assert_eq!(rt; answer.ok(), want, "with {fails:?}");
-                if let Ok(count) = answer {
-                    given.extend_from_slice(&buf[..count])?;
-                }
-            }
-            assert_eq!(rt; given.as_slice(), b"hello".as_slice());
-            assert_eq!(rt; source.faults(), faults, "with {fails:?}");
-        }
-        Ok(())
-    }
-}

@@ -11,8 +11,6 @@ mod read;
 mod search;
 mod steps;
 mod subtree;
-#[cfg(test)]
-mod tests;
 mod visits;
 
 pub use laws::{

@@ -2,7 +2,7 @@
 ghost use Rattle.std.specs.Prelude.{IfSome, OnOk};
 ghost use Rattle.hm_pipe.specs.Pipe.{Gains, IsAtEnd};
 
-use crate::{MemSink, MemSource, Sink, Source, StdSink, StdSource};
+use hm_pipe::{MemSink, MemSource, Sink, Source, StdSink, StdSource};
 use hm_types::Failed;
 use std::test::Fail;
 

@@ -1,4 +1,4 @@
-use Rattle.hm_search.proofs.tests.found_at.Given as goal
+use Rattle.hm_search_tests.proofs.tree.found_at.Given as goal
 
 abbrev pub ghosts-found_in : goal.ghosts-found_in
 ghosts-found_in a = record { name = a.blank.name; parts = a.blank.parts }

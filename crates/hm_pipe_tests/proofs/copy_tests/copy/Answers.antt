@@ -1,5 +1,5 @@
-use Rattle.hm_pipe.proofs.Moved.{moved_more}
-use Rattle.hm_pipe.proofs.tests.copy.Goals as goal
+use Rattle.hm_pipe_tests.proofs.Moved.{moved_more}
+use Rattle.hm_pipe_tests.proofs.copy_tests.copy.Goals as goal
 
 pub loop-preserved : goal.loop-preserved
 loop-preserved g c =

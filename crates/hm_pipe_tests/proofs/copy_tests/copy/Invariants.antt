@@ -1,5 +1,5 @@
-use Rattle.hm_pipe.proofs.Moved.{Moved}
-use Rattle.hm_pipe.proofs.tests.copy.Given as goal
+use Rattle.hm_pipe_tests.proofs.Moved.{Moved}
+use Rattle.hm_pipe_tests.proofs.copy_tests.copy.Given as goal
 
 abbrev pub invariant-loop : goal.invariant-loop
 invariant-loop g l = Moved

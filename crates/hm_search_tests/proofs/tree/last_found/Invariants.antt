@@ -1,4 +1,4 @@
-use Rattle.hm_search.proofs.tests.last_found.Given as goal
+use Rattle.hm_search_tests.proofs.tree.last_found.Given as goal
 
 abbrev pub ghosts-last_in : goal.ghosts-last_in
 ghosts-last_in a = record { name = a.blank.name; parts = a.blank.parts }

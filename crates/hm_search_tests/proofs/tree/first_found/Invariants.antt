@@ -1,4 +1,4 @@
-use Rattle.hm_search.proofs.tests.first_found.Given as goal
+use Rattle.hm_search_tests.proofs.tree.first_found.Given as goal
 
 abbrev pub ghosts-first_in : goal.ghosts-first_in
 ghosts-first_in a = record { name = a.blank.name; parts = a.blank.parts }
