@@ -14,6 +14,7 @@ mod HeldLemmas
 pub mod KnownLemmas
 mod LogLemmas
 mod MapLemmas
+mod MovingLemmas
 mod NewNodeLemmas
 mod NodeCallLemmas
 mod NodeStepLemmas

@@ -1,10 +1,10 @@
 -- A look at a space leaves what it holds.
-use Rattle.std.proofs.Common.{◌≡◌, true, ℕ, ◌^◌, Option, Some, Result, Ok, Err, refl, sym, ap, ◌∙◌, cond}
+use Rattle.std.proofs.Common.{◌≡◌, true, ℕ, ℤ, ◌^◌, Option, Some, Result, Ok, Err, refl, sym, ap, ◌∙◌, cond}
 use Rattle.std.specs.Prelude.{IfOk}
 use Rattle.hm_types.specs.declared.fault.Fault.{Fault}
 use Rattle.hm_disk.specs.Crash.{Told}
 use Rattle.hm_fields.specs.Pages.{PageMap}
-use Rattle.hm_freemap.specs.Calls.{CountsFree}
+use Rattle.hm_freemap.specs.Calls.{CountsFree, IsLive}
 use Rattle.hm_freemap.specs.Places.{HasLayer2}
 use Rattle.hm_freemap.specs.Stand.{free_by}
 use Rattle.hm_pages.specs.Store.{Store, Frame as PagesFrame, frame_of as pages_frame, layer2}
@@ -48,3 +48,10 @@ free_counted store disk books (Ok free) whole counts =
     let h = heap_of store disk books in
     counts.by_maps ∙ sym (ap (λ t. cond t (free_by h.bigblocks h.append (maps_of h)) (2 ^ 32)) whole)
 free_counted store disk books (Err fault) whole counts = tt
+
+-- and what is counted of a big-block is so by the maps of a space
+pub live_counted : (store : Store) (disk : Option Told) (books : Books) (block : ℕ) (result : Result ℤ Fault)
+    → IfOk result (IsLive books.bigblocks books.append (record { committed = store.committed; frozen = store.frozen; current = store.current }) block)
+    → IfOk result (IsLive books.bigblocks books.append (maps_of (heap_of store disk books)) block)
+unfolding heap_of
+live_counted store disk books block result is = is

@@ -226,6 +226,13 @@ module _ (mid new : Heap) (root : ℕ) (done : Bool) (ends : IsEnded done mid ne
   room_tree old zones held (Err (NoSpace free needed)) is tree answers = tree_done old is answers.unchanged.0 tree
   room_tree old zones held (Err (of_store fault)) is tree answers = tree_failed is
 
+-- where zones got room, each node stands where it stood
+pub room_nodes : (old mid new : Heap) (zones : Zones) (held : ℕ) (done : Bool) → IsEnded done mid new → (r : Result (Unit {0}) SpaceFault)
+    → done ≡ is_settled r → AnswersRoom zones held old mid r → OnOk r (pages_of new ≡ pages_of old)
+room_nodes old mid new zones held done ends (Ok x) is answers =
+    ap pages_of (ended_done mid new (subst (λ (t : Bool). IsEnded t mid new) is ends)) ∙ answers.content.0
+room_nodes old mid new zones held done ends (Err fault) is answers = tt
+
 -- what a store with these parts was asked for and answers of room
 module _ {S : Type 0} (heap : S → Heap) (root : S → ℕ) where
   abbrev elements : S → Option (List Element)

@@ -11,6 +11,7 @@ pub mod Held
 pub mod Calls
 pub mod Nodes
 pub mod Told
+pub mod Moving
 pub mod Laws
 pub mod Turn
 pub mod Mounted

@@ -5,7 +5,7 @@ ghost use Rattle.hm_types.specs.Offset.{byte_of};
 ghost use Rattle.hm_types.specs.Space.{IfNoSpace, rounded};
 ghost use Rattle.hm_types.specs.declared.limits.TheConstants.{LEAST_BIGBLOCKS, MOST_BIGBLOCKS};
 ghost use Rattle.hm_freemap.specs.Admit.{HasAdmissionCause, IsAdmitted, IsRefused};
-ghost use Rattle.hm_freemap.specs.Calls.{CountsFree};
+ghost use Rattle.hm_freemap.specs.Calls.{CountsFree, IsLive};
 ghost use Rattle.hm_freemap.specs.Change.{given, shared};
 ghost use Rattle.hm_freemap.specs.Extents.{Changes, IsReferred, IsShareable, Moves, Takes};
 ghost use Rattle.hm_freemap.specs.Extents.{reference, referred, unreferred};
@@ -153,6 +153,31 @@ pub(crate) fn count_free<P: FreemapPages>(
 {
     let mut map = Freemap::over(pages, bigblocks, append);
     let answer = map.free_blocks();
+    let (last, _append) = map.into_parts();
+    let _there = last;
+    answer
+}
+
+/// How many bytes of a big-block of the pool are live in the current state.
+pub(crate) fn count_live<P: FreemapPages>(
+    pages: &mut P,
+    bigblocks: u32,
+    append: [u32; 4],
+    block: u32,
+) -> Result<i64, Fault>
+    requires size { (LEAST_BIGBLOCKS ≤ bigblocks) × (bigblocks ≤ MOST_BIGBLOCKS) }
+    requires below { AreBelow bigblocks append }
+    requires there { HasLayer2 bigblocks (P.layer2 pages.old) }
+    ensures ok { IfOk result (λ live. WhereTold (P.committed pages.old) (P.frozen pages.old)
+        (P.pages pages.old) (λ maps. IsLive bigblocks append maps block live)) }
+    ensures same { (P.pages pages.new ≡ P.pages pages.old) × (P.rest pages.new ≡ P.rest pages.old) }
+    ensures frame { P.frame pages.new ≡ P.frame pages.old }
+    ensures cause { HasFreemapCause bigblocks append (λ one. one ≡ block)
+        (P.committed pages.old) (P.frozen pages.old) (P.pages pages.old)
+        (P.faults pages.old) (P.faults pages.new) result }
+{
+    let mut map = Freemap::over(pages, bigblocks, append);
+    let answer = map.live_bytes(block);
     let (last, _append) = map.into_parts();
     let _there = last;
     answer

@@ -36,6 +36,7 @@ mod extents;
 mod flushing;
 mod grants;
 mod laws;
+mod moving;
 mod pages;
 mod payloads;
 mod places;

@@ -8,7 +8,7 @@ ghost use Rattle.hm_stored.specs.Held.{IsKept, IsOfVolume};
 
 use crate::books::Books;
 use crate::extents::{give, renew, share};
-use crate::grants::count_free;
+use crate::grants::{count_free, count_live};
 use crate::pages::VolumePages;
 use crate::payloads::{put, read};
 use hm_disk::{Disk, MOST_CALL_BYTES};
@@ -177,6 +177,7 @@ impl<D: Disk> Space<D> {
     ghost use Rattle.hm_types.specs.Space.{IsPayloadZone, in_zone, nothing, rounded};
     ghost use Rattle.hm_types.specs.Faults.{IsCaused};
     ghost use Rattle.hm_types.specs.Layout.{IsPool};
+    ghost use Rattle.hm_freemap.specs.Calls.{IsLive};
     ghost use Rattle.hm_freemap.specs.Faults.{IsFreemapDamage};
     ghost use Rattle.hm_key.specs.Extents.{extent_at, given_back_at, shared_at};
     ghost use Rattle.hm_stored.specs.Calls.{AnswersRoom, ChangesExtents, Places, Stays};
@@ -298,5 +299,28 @@ impl<D: Disk> Space<D> {
             return Err(Fault::NoMemory);
         }
         count_free(&mut self.pages, self.books.bigblocks, self.books.append)
+    }
+
+    /// How many bytes of a big-block of the pool are live in the current state, each as often as it is
+    /// referred to. It reads one page. Damage is told only of an entry that is none of its big-block, and
+    /// of each big-block that is not of the pool.
+    pub fn live_bytes(&mut self, block: u32) -> Result<i64, Fault>
+        ensures ok { IfOk result (IsLive self.old.books.bigblocks self.old.books.append
+            (maps_of (heap self.old)) block) }
+        ensures same { LooksSame (heap self.old) (heap self.new) }
+        ensures disk { self.new.disk ≡ self.old.disk }
+        ensures cause { IfErr result (IsFreemapDamage self.old.books.bigblocks self.old.books.append
+            (λ one. one ≡ block) (maps_of (heap self.old))) }
+        ensures no_media { IfErr result (IsCaused 0 0) }
+    {
+        if !self.books.whole {
+            return Err(Fault::NoMemory);
+        }
+        count_live(
+            &mut self.pages,
+            self.books.bigblocks,
+            self.books.append,
+            block,
+        )
     }
 }

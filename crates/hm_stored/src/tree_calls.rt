@@ -2,6 +2,8 @@
 ghost use Rattle.std.specs.Prelude.{◌≡◌, ◌⊎◌, ◌<◌, ◌≤◌, IfOk, IfSome, IsNone, IsSome};
 ghost use Rattle.hm_types.specs.Faults.{HasStoreCause};
 ghost use Rattle.hm_types.specs.Space.{in_zone, nothing};
+ghost use Rattle.std.specs.List.Sorted.{IsNonDecreasing};
+ghost use Rattle.hm_btree.specs.Calls.Choice.{FindsFrom};
 ghost use Rattle.hm_btree.specs.Tree.{HoldsTree};
 ghost use Rattle.hm_key.specs.Element.{IsElement};
 ghost use Rattle.hm_key.specs.Elements.{element_at, first_from, inserted, last_id, last_to, removed, with_delete, with_payload};
@@ -9,13 +11,15 @@ ghost use Rattle.hm_key.specs.Key.{IsBefore, greatest_key, key_of};
 ghost use Rattle.hm_key.specs.Marks.{IsQuiet, Marks, MarksJoin, MarksStay};
 ghost use Rattle.hm_key.specs.Stores.{IsEnd, IsFound, IsFoundTo};
 ghost use Rattle.hm_stored.specs.Heap.{pages_of, room_of};
+ghost use Rattle.hm_stored.specs.Moving.{MovesNodeTo, StandsIn, outcome};
 ghost use Rattle.hm_stored.specs.Space.{heap};
 ghost use Rattle.hm_stored.specs.Told.{ReadsTree, WritesTree, elements_told, mark_told};
 
 use crate::space::Space;
-use hm_btree::BTree;
+use hm_btree::{BTree, NODE_BYTES};
 use hm_disk::Disk;
 use hm_key::{Base, Element, ElementStore};
+use hm_search::Subtree;
 use hm_types::{Fault, HOff, INSERT_ROOM, Id, TREE_ZONE};
 
 /// Adds an element, at whose key there is none. Answers where the root stands then.
@@ -174,6 +178,55 @@ pub(crate) fn unchanged_until<D: Disk>(
 {
     let mut tree = BTree::over(space, root);
     let answer = tree.unchanged_until(at, since);
+    let (space, root) = tree.into_parts();
+    let _there = space;
+    (root, answer)
+}
+
+/// Lets the node at `at` stand elsewhere, and answers where.
+pub(crate) fn move_node<D: Disk>(
+    space: &mut Space<D>,
+    root: HOff,
+    at: HOff,
+) -> (HOff, Result<HOff, Fault>)
+    requires tree { HoldsTree (pages_of (heap space.old)) root }
+    requires there { IfSome (pages_of (heap space.old)) (λ map. IsSome (map at)) }
+    requires room { NODE_BYTES ≤ room_of (heap space.old) TREE_ZONE }
+    ensures writes { WritesTree (in_zone TREE_ZONE NODE_BYTES) (λ es. es) MarksStay
+        (heap space.old) (heap space.new) root result.0 (outcome result.1) }
+    ensures moves { IfOk result.1 (MovesNodeTo at (heap space.old) (heap space.new)) }
+    ensures cause { HasStoreCause (elements_told (heap space.old) root)
+        (D.faults space.old.disk) (D.faults space.new.disk) result.1 }
+    ensures past { D.past space.new.disk ≡ D.past space.old.disk }
+{
+    let mut tree = BTree::over(space, root);
+    let answer = tree.move_node(at);
+    let (space, root) = tree.into_parts();
+    space.end_change(answer.is_ok());
+    (root, answer)
+}
+
+/// The first of the nodes that end after the key of `from` and lie in one of some big-blocks.
+pub(crate) fn node_from<D: Disk>(
+    space: &mut Space<D>,
+    root: HOff,
+    chosen: &[u32],
+    from: &Base,
+) -> (HOff, Result<Option<Subtree>, Fault>)
+    requires tree { HoldsTree (pages_of (heap space.old)) root }
+    requires rising { IsNonDecreasing chosen.now }
+    requires before { IsBefore (key_of from.now) greatest_key }
+    ensures ok { IfSome (pages_of (heap space.old)) (λ map. IfOk result.1
+        (FindsFrom chosen.now (key_of from.now) map root)) }
+    ensures there { IfOk result.1 (λ found. IfSome found (StandsIn chosen.now (heap space.new))) }
+    ensures nodes { pages_of (heap space.new) ≡ pages_of (heap space.old) }
+    ensures reads { ReadsTree (heap space.old) (heap space.new) root result.0 }
+    ensures cause { HasStoreCause (elements_told (heap space.old) root)
+        (D.faults space.old.disk) (D.faults space.new.disk) result.1 }
+    ensures past { D.past space.new.disk ≡ D.past space.old.disk }
+{
+    let mut tree = BTree::over(space, root);
+    let answer = tree.node_from(chosen, from);
     let (space, root) = tree.into_parts();
     let _there = space;
     (root, answer)

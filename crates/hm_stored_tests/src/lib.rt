@@ -7,6 +7,8 @@
 #[cfg(test)]
 mod flush_tests;
 #[cfg(test)]
+mod moving_tests;
+#[cfg(test)]
 mod quiet_disk;
 #[cfg(test)]
 mod tests;

@@ -36,7 +36,7 @@ pub fn mounted<D: Disk + Drop>(alloc: Global, mut disk: D) -> Result<Space<D>, F
 }
 
 // The store over a volume of 24 big-blocks, in which a call was opened.
-fn opened<D: Disk + Drop>(alloc: Global, mut disk: D) -> Result<Stored<D>, Failed>
+pub fn opened<D: Disk + Drop>(alloc: Global, mut disk: D) -> Result<Stored<D>, Failed>
     requires room { IfSome (D.told disk) (HasSpace 24) }
     ensures { IfOk result (λ s. IsSome (heap s.space).pages.begin) }
 {

@@ -3,7 +3,7 @@ use Rattle.std.proofs.Common.{refl}
 use Rattle.hm_pages.specs.Store.{contents}
 use Rattle.hm_stored.specs.Heap.{heap_of}
 use Rattle.hm_stored.proofs.RootLemmas.{rooted_ended}
-use Rattle.hm_stored.proofs.StoredLemmas.{room_given, room_keeps, room_tree}
+use Rattle.hm_stored.proofs.StoredLemmas.{room_given, room_keeps, room_nodes, room_tree}
 use Rattle.hm_stored.proofs.stored_extents.StoredExtents.admit.Goals as goal
 
 pub invariant_of-self : goal.invariant_of-self
@@ -35,4 +35,14 @@ returns-clause-keeps g c =
     let mid = c.admit-admitted.new.self in
     room_keeps (λ s. heap_of (contents s.space.pages.store) (g.D.Disk.told s.space.disk) s.space.books) (λ s. s.root) c.args.zones c.args.held
     c.args.self.now _ (heap_of (contents mid.pages.store) (g.D.Disk.told mid.disk) mid.books) c.is_settled.result refl mid.books.most c.end_change.ensures.ends
+    c.admit-admitted.result c.is_settled.ensures c.admit-admitted.ensures.answers
+
+pub returns-clause-nodes : goal.returns-clause-nodes
+unfolding heap_of
+returns-clause-nodes g c =
+    let s = c.args.self.now.space in
+    let mid = c.admit-admitted.new.self in
+    let new = c.end_change.new.self in
+    room_nodes (heap_of (contents s.pages.store) (g.D.Disk.told s.disk) s.books) (heap_of (contents mid.pages.store) (g.D.Disk.told mid.disk) mid.books)
+    (heap_of (contents new.pages.store) (g.D.Disk.told new.disk) new.books) c.args.zones c.args.held c.is_settled.result c.end_change.ensures.ends
     c.admit-admitted.result c.is_settled.ensures c.admit-admitted.ensures.answers
