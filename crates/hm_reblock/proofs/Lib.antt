@@ -1,0 +1,8 @@
+mod AwayLemmas
+mod CopyLemmas
+mod LeftLemmas
+mod LookLemmas
+mod RelocateLemmas
+mod StageLemmas
+mod TwinLemmas
+mod UnitLemmas
