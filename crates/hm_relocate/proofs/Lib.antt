@@ -1,0 +1,6 @@
+mod ChosenLemmas
+mod GotOnLemmas
+mod LeavingLemmas
+mod LookedLemmas
+mod StepLemmas
+mod UnitLemmas
