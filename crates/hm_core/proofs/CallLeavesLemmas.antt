@@ -1,7 +1,7 @@
 -- A core follows itself over a call that was answered and entered, and what a crash within may leave.
 use Rattle.std.proofs.Common.{◌≡◌, ◌≢◌, inl, ℕ, ◌+◌, ◌≤◌, List, [], ◌∷◌, ◌++◌}
 use Rattle.std.proofs.Common.{refl, sym, subst, ◌∙◌, arith}
-use Rattle.std.specs.Prelude.{IfSome}
+use Rattle.std.specs.Prelude.{IfSome, Option}
 use Rattle.hm_disk.specs.Moments.{LeftSince}
 use Rattle.hm_flush.specs.declared.flush.Flush.{Flush}
 use Rattle.hm_flush.specs.declared.flush.Position.TheVariants.{Idle}
@@ -14,17 +14,17 @@ use Rattle.hm_model.specs.Needs.{floor}
 use Rattle.hm_model.specs.Volume.{Volume}
 use Rattle.hm_model.specs.declared.command.Command.{Command}
 use Rattle.hm_model.specs.declared.entry.Entry.{Entry}
-use Rattle.hm_calls.specs.Answered.{reply_in}
-use Rattle.hm_calls.specs.declared.answered.Answered.{Answered}
+use Rattle.hm_model.specs.declared.reply.Reply.{Reply}
+use Rattle.hm_state.specs.Volume.{HoldsVolume}
 use Rattle.hm_stored.specs.Heap.{free_of}
 use Rattle.hm_step.specs.Next.{UsedBelow}
-use Rattle.hm_core.specs.Answer.{AnswersOver, IsEntryOf, running_after}
+use Rattle.hm_core.specs.Answer.{AnswersOver, IsEntryOf, KeepsAs, running_after}
 use Rattle.hm_core.specs.Core.{Follows, HoldsUpTo, IsGuarded, IsSoundCore, LeavesHeld, StandsOver}
 use Rattle.hm_core.specs.Counts.{AreLater, with_disk}
 use Rattle.hm_core.specs.Crash.{IsBetween, IsLeftBoundary, LeavesNow, LeavesPrefixes}
 use Rattle.hm_core.specs.History.{IsLegalBeyond, IsLegalOver, setting_of, volume_of}
 use Rattle.hm_core.specs.Numbers.{numbers_told}
-use Rattle.hm_core.specs.State.{CoreState, OpenPrune}
+use Rattle.hm_core.specs.State.{CoreState, OpenJob, OpenWork}
 use Rattle.hm_core.proofs.CountLemmas.{disk_later}
 use Rattle.hm_core.proofs.CrashLemmas.{leaves_weaker}
 use Rattle.hm_core.proofs.EnterLemmas.{entered_by}
@@ -32,21 +32,23 @@ use Rattle.hm_core.proofs.HeldLemmas.{guarded_still, held_still, read_still}
 use Rattle.hm_core.proofs.NumberLemmas.{used_told}
 use Rattle.hm_core.proofs.UpToLemmas.{more_drawn, up_to_stays}
 
--- A core has entered the next id's entry, and all but what its space holds is as before, and a prune that the entry opened.
-pub record IsEntered (core new : CoreState) (entry : Entry) (answered : Answered) : Type 0 where
+-- A core has entered the next id's entry, and all but what its space holds is as before, and what the entry opened.
+pub record IsEntered (core new : CoreState) (entry : Entry) (opened : Option OpenWork) : Type 0 where
   pub history : new.history ≡ core.history ++ entry ∷ []
   pub last : new.last ≡ core.last + 1
   pub boundary : new.boundary ≡ core.boundary
   pub mounted : new.mounted ≡ core.mounted
   pub counts : new.counts ≡ with_disk core.counts new.counts.disk
   pub flush : new.flush ≡ core.flush
-  pub running : new.running ≡ running_after entry answered core.running
+  pub running : new.running ≡ running_after entry opened core.running
 
-module _ (past since : LeftSince) (core new : CoreState) (command : Command) (entry : Entry) (answered : Answered) (begun : IsSoundCore core) (ended : IsSoundCore new)
+module _ (past since : LeftSince) (core new : CoreState) (command : Command) (entry : Entry) (reply : Reply) (opened : Option OpenWork)
+    (begun : IsSoundCore core) (ended : IsSoundCore new)
     (target : core.flush.at ≢ Idle → (core.flush.header.last.0 ≤ core.flush.target.last.0) × (core.flush.target.last.0 ≤ core.last))
-    (least : floor core.mounted.free core.history ≤ free_of core.heap) (entered : IsEntered core new entry answered)
-    (is : IsEntryOf core.last command (reply_in answered) entry)
-    (answers : AnswersOver (numbers_told core.history) core.boundary core.counts.disk new.counts.disk core.last command core.heap new.heap core.root new.root answered)
+    (least : floor core.mounted.free core.history ≤ free_of core.heap) (entered : IsEntered core new entry opened)
+    (is : IsEntryOf core.last command reply entry)
+    (answers : AnswersOver (numbers_told core.history) core.boundary core.counts.disk new.counts.disk core.last command core.heap new.heap core.root
+    new.root reply opened)
     (leaves : LeavesNow past since new.heap.disk) where
   now_between : IsBetween core.boundary core.last core.flush.header.last.0
   now_between = begun.between core.flush.header.last.0 (inl refl)
@@ -62,7 +64,7 @@ module _ (past since : LeftSince) (core new : CoreState) (command : Command) (en
     next =
         let from = now_between.0 in
         let to = now_between.1 in
-        subst (λ (x : Counts × List Entry × ℕ × List OpenPrune).
+        subst (λ (x : Counts × List Entry × ℕ × List OpenJob).
         IsLegalBeyond core.mounted.free core.mounted.counts x.0 x.1 new.heap new.root x.2 x.3 opening foreigners events)
         (λ i. (sym entered.counts i, sym entered.history i, sym entered.last i, sym entered.running i))
         (answers.legal core.mounted.free core.mounted.counts core.counts core.history core.running opening foreigners events entry least is begun.told
@@ -105,3 +107,11 @@ module _ (past since : LeftSince) (core new : CoreState) (command : Command) (en
 
   pub call_leaves_held : LeavesHeld past since core
   call_leaves_held = held
+
+  -- a prune that it opened keeps what the volume that the space holds now keeps
+  pub call_leads : (opening : Volume) (foreigners : Foreigners) (events : List Event) → StandsOver core opening foreigners events
+      → (volume : Volume) → HoldsVolume new.heap new.root new.last volume → IfSome opened (KeepsAs volume)
+  call_leads opening foreigners events stands volume holds =
+      answers.leads core.mounted.free core.mounted.counts core.counts core.history core.running opening foreigners events least
+      (used opening foreigners events stands stands.legal) stands.legal volume
+      (subst (λ (n : ℕ). HoldsVolume new.heap new.root n volume) entered.last holds)

@@ -24,25 +24,28 @@ use Rattle.hm_calls.specs.declared.answered.Answered.{Answered}
 use Rattle.hm_calls.specs.declared.answered.Answered.TheVariants.{Opened, Replied}
 use Rattle.hm_image.specs.StandFor.{StandFor}
 use Rattle.hm_stored.specs.Heap.{Heap}
+use Rattle.hm_state.specs.Volume.{HoldsVolume}
 use Rattle.hm_stored.specs.Standing.{Holds}
 use Rattle.hm_step.specs.Next.{Asked, GoesOn, IsEventOf, IsLedIfOpened, StandIfFit, UsedBelow, opened_after}
 use Rattle.hm_step.specs.Seen.{AreGiven}
+use Rattle.hm_prune.specs.Dead.{keeps_in}
 use Rattle.hm_step.specs.Step.{IsFailure, IsNext}
 use Rattle.hm_step.proofs.HistoryLemmas.{allowed_failed, keeps_failed, opened_failed, stands_failed}
 use Rattle.hm_step.proofs.LegalLemmas.{may_follow_failed}
 use Rattle.hm_step.proofs.SubstituteLemmas.{trees_given}
-use Rattle.hm_core.specs.Answer.{running_after}
+use Rattle.hm_core.specs.Answer.{KeepsAs, led_work, running_after}
 use Rattle.hm_core.specs.Calls.{Fails, IsNextCall, Serves}
 use Rattle.hm_core.specs.Counts.{AreLater}
 use Rattle.hm_core.specs.History.{HoldsState, IsLegalBeyond, IsLegalOver, setting_of}
 use Rattle.hm_core.specs.Open.{AreOpen}
-use Rattle.hm_core.specs.State.{OpenPrune}
+use Rattle.hm_core.specs.State.{OpenJob, pruning}
 use Rattle.hm_core.specs.Told.{told_beside}
 use Rattle.hm_core.proofs.CountLemmas.{NumbersOf, later_still, legal_later, told_most}
-use Rattle.hm_core.proofs.StateLemmas.{IsNextTo, holds_after, open_more, open_same, served_next}
+use Rattle.hm_core.proofs.RetentionLemmas.{held_retention}
+use Rattle.hm_core.proofs.StateLemmas.{IsNextTo, holds_after, kept_elsewhere, kept_there, open_more, open_same, prune_is, served_next}
 use Rattle.hm_core.proofs.WordLemmas.{words_are_read}
 
-module _ (free : ℕ) (start faults faults' : Counts) (history : List Entry) (h : Heap) (root last : ℕ) (running : List OpenPrune) (opening : Volume)
+module _ (free : ℕ) (start faults faults' : Counts) (history : List Entry) (h : Heap) (root last : ℕ) (running : List OpenJob) (opening : Volume)
     (foreigners : Foreigners) (events : List Event) (so_far : IsLegalOver free start faults history h root last running opening foreigners events)
     (counted : AreLater faults faults') where
   -- the run with the count of now, and what it has come to
@@ -62,7 +65,7 @@ module _ (free : ℕ) (start faults faults' : Counts) (history : List Entry) (h 
   told_now : AreLater known.counts faults'
   told_now = later_still known.counts faults faults' so_far.counted counted
 
-  pub goes_on : (event : Event) (h' : Heap) (root' : ℕ) (running' : List OpenPrune) → MayFollow run events event
+  pub goes_on : (event : Event) (h' : Heap) (root' : ℕ) (running' : List OpenJob) → MayFollow run events event
       → HoldsState h' root' (last + 1) running' (state_after run (events ++ event ∷ []))
       → IsLegalOver free start faults' (history ++ event.entry ∷ []) h' root' (last + 1) running' opening foreigners (events ++ event ∷ [])
   goes_on event h' root' running' follows held = record {
@@ -115,8 +118,8 @@ module _ (free : ℕ) (start faults faults' : Counts) (history : List Entry) (h 
       least = enough;
     }
 
-    -- the space that came of a call holds the state after it, with these prunes open
-    next_held : (h' : Heap) (root' : ℕ) (running' : List OpenPrune) (now : List FullElement) → h'.bigblocks ≡ h.bigblocks → Holds h' root' now
+    -- the space that came of a call holds the state after it, with these calls open
+    next_held : (h' : Heap) (root' : ℕ) (running' : List OpenJob) (now : List FullElement) → h'.bigblocks ≡ h.bigblocks → Holds h' root' now
         → StandFor now (state_after run (events ++ event ∷ [])).volume → IsAllowed run events event
         → AreOpen running' (state_after run (events ++ event ∷ [])) → HoldsState h' root' (last + 1) running' (state_after run (events ++ event ∷ []))
     next_held h' root' running' now same holds stand allowed opened =
@@ -160,28 +163,37 @@ module _ (free : ℕ) (start faults faults' : Counts) (history : List Entry) (h 
       comes = served_next run events event is.served own stepped.allowed
 
       -- what is open afterwards
-      are_open : AreOpen (running_after entry answered running) after
+      are_open : AreOpen (running_after entry (led_work answered) running) after
       are_open = by answered stepped.opened stepped.leads form where
         by : (a : Answered) → after.opened ≡ opened_after state call a → IsLedIfOpened after.volume a → IsFormOf entry.call a
-            → AreOpen (running_after entry a running) after
+            → AreOpen (running_after entry (led_work a) running) after
         by (Replied reply) same leads form_is =
             open_same running state after same stepped.jobs (let last_is = comes.last in omega (arith, last_is)) so_far.held.opened
         by (Opened led) same leads form_is =
-            open_more running state after call entry led form_is refl own comes.last same leads stepped.jobs so_far.held.opened
+            open_more running state after call entry (pruning led.pfs.0 led.kept) led.pfs.0 (prune_is entry.call form_is) refl refl own comes.last same
+            (leads.enough (keeps_in led.pfs.0 led.kept) (kept_there led.pfs.0 led.kept) (kept_elsewhere led.pfs.0 led.kept)) stepped.jobs so_far.held.opened
 
-      held : HoldsState h' root' (last + 1) (running_after entry answered running) after
+      held : HoldsState h' root' (last + 1) (running_after entry (led_work answered) running) after
       held = by (content_of (elements_of new) (extents_of new)) refl stepped.stands where
         by : (o : Option Lists) → content_of (elements_of new) (extents_of new) ≡ o
             → IsSomeAnd o (λ now. IsBalanced now.0 now.1 × StandIfFit now after.volume)
-            → HoldsState h' root' (last + 1) (running_after entry answered running) after
+            → HoldsState h' root' (last + 1) (running_after entry (led_work answered) running) after
         by None told stands = absurd stands
         by (Some now) told stands =
             let there = serves.holds now told stands.0 in
-            next_held h' root' (running_after entry answered running) (fulls now) serves.size there.holds (stands.1 there.fit) stepped.allowed are_open
+            next_held h' root' (running_after entry (led_work answered) running) (fulls now) serves.size there.holds (stands.1 there.fit) stepped.allowed
+            are_open
 
-      pub served_call : IsLegalBeyond free start faults' (history ++ entry ∷ []) h' root' (last + 1) (running_after entry answered running) opening
-          foreigners events
-      served_call = (event ∷ [], goes_on event h' root' (running_after entry answered running) stepped.follows held)
+      pub served_call : IsLegalBeyond free start faults' (history ++ entry ∷ []) h' root' (last + 1) (running_after entry (led_work answered) running)
+          opening foreigners events
+      served_call = (event ∷ [], goes_on event h' root' (running_after entry (led_work answered) running) stepped.follows held)
+
+      -- a prune that it opened keeps what the volume after it keeps
+      pub served_leads : (volume : Volume) → HoldsVolume h' root' (last + 1) volume → IfSome (led_work answered) (KeepsAs volume)
+      served_leads volume holds = by answered stepped.leads where
+        by : (a : Answered) → IsLedIfOpened after.volume a → IfSome (led_work a) (KeepsAs volume)
+        by (Replied reply) leads = tt
+        by (Opened led) leads = sym leads.kept ∙ held_retention h' root' (last + 1) after.volume volume led.pfs.0 held.holds holds
 
     -- the device failed in it, or memory was refused
     module _ (h' : Heap) (root' : ℕ) (failed : Fails faults.disk faults'.disk entry h h' root root') where

@@ -15,7 +15,6 @@ use Rattle.hm_calls.specs.Possible.{MayReply}
 use Rattle.hm_calls.specs.Stop.{TellsRefusal}
 use Rattle.hm_calls.specs.declared.answered.Answered.{Answered}
 use Rattle.hm_calls.specs.declared.answered.Answered.TheVariants.{Opened, Replied}
-use Rattle.hm_calls.specs.declared.pruning.Led.{Led}
 use Rattle.hm_model.specs.After.{Event, end_id}
 use Rattle.hm_model.specs.Caused.{AreCaused, Counts, HasCause, IsCaused, Known, is_housekeeping, known_after, known_after_entry, known_at}
 use Rattle.hm_model.specs.Caused.{number_of, opens, possible}
@@ -25,24 +24,25 @@ use Rattle.hm_model.specs.declared.command.Command.{Command}
 use Rattle.hm_model.specs.declared.command.Command.TheVariants.{Df, MirrorCopy, MirrorRead, MirrorWrite, PfsUpgrade, Prune, PruneAll, Reblock}
 use Rattle.hm_model.specs.declared.entry.Entry.{Entry}
 use Rattle.hm_model.specs.declared.reply.Reply.{Reply}
-use Rattle.hm_model.specs.declared.reply.Reply.TheVariants.{Space, Synced}
+use Rattle.hm_model.specs.declared.reply.Reply.TheVariants.{Done, Space, Synced}
 use Rattle.hm_model.proofs.EventLemmas.{known_after-push}
 use Rattle.hm_model.proofs.HistoryLemmas.{last_or_before, nothing_in_none}
 use Rattle.hm_step.specs.Causes.{IsNextOf, TellsFault}
 use Rattle.hm_search.proofs.ListLemmas.{each_append, each_so}
 use Rattle.hm_step.proofs.CauseLemmas.{fault_cause, may_cause, may_end}
 use Rattle.hm_step.proofs.EventLemmas.{served_no_opening}
-use Rattle.hm_core.specs.Answer.{prune_of, running_after}
+use Rattle.hm_core.specs.Answer.{job_of, led_work, running_after}
 use Rattle.hm_core.specs.Caused.{IsCausedFrom, IsCausedWith}
 use Rattle.hm_core.specs.Counts.{AreLater}
 use Rattle.hm_core.specs.Inside.{AreUpTo}
-use Rattle.hm_core.specs.Open.{AreKnownOpen, IsKnownOpen, IsPrune}
+use Rattle.hm_core.specs.Open.{AreKnownOpen, IsKnownOpen, IsOpenedBy, IsReblock, opens_job}
 use Rattle.hm_core.specs.Served.{IsServed, IsSync}
-use Rattle.hm_core.specs.State.{OpenPrune}
+use Rattle.hm_core.specs.State.{OpenJob, OpenWork, pruning, reblocking}
 use Rattle.hm_core.specs.Told.{reply_to}
 use Rattle.hm_core.proofs.BoundaryLemmas.{boundary_known}
 use Rattle.hm_core.proofs.CountLemmas.{NumbersOf, cause_later, later_still, told_most}
-use Rattle.hm_core.proofs.PathlessLemmas.{NamesNoPath, boundary_listed, event_of, fault_listed, pathless_cause, space_listed}
+use Rattle.hm_core.proofs.PathlessLemmas.{NamesNoPath, OpensNothing, boundary_listed, df_opens_nothing, done_listed, event_of, fault_listed}
+use Rattle.hm_core.proofs.PathlessLemmas.{pathless_cause, space_listed, sync_opens_nothing}
 use Rattle.hm_core.proofs.StateLemmas.{apart, prune_is}
 use Rattle.hm_core.proofs.WordLemmas.{words_are_read}
 
@@ -57,10 +57,10 @@ AreCaused-goes_on last start now events event caused next before e rest is =
     ]
 
 -- a history with no entry
-pub caused_first : (first : ℕ) (start now : Counts) (last : ℕ) (running : List OpenPrune) (history : List Entry) → running ≡ [] → history ≡ []
+pub caused_first : (first : ℕ) (start now : Counts) (last : ℕ) (running : List OpenJob) (history : List Entry) → running ≡ [] → history ≡ []
     → AreLater start now → last ≡ first → IsCausedWith first start now last running history
 caused_first first start now last running history idle none counted same =
-    subst (λ (ps : List OpenPrune). IsCausedWith first start now last ps history) (sym idle) (record {
+    subst (λ (ps : List OpenJob). IsCausedWith first start now last ps history) (sym idle) (record {
       causes = record {
         events = [];
         entries = sym none;
@@ -110,49 +110,67 @@ no_opening (MirrorWrite path) reply answers refuses = absurd answers
 no_opening (MirrorCopy master slave limit) reply answers refuses = absurd answers
 no_opening other reply answers refuses = refl
 
-pub an_opening : (command : Command) (reply : Reply) → IsTrue (is_prune command) → is_refusal reply ≡ false → opens_as command reply ≡ true
-an_opening (Prune path) reply prunes accepts = rw accepts refl
-an_opening (PruneAll path) reply prunes accepts = rw accepts refl
-an_opening other reply prunes accepts = absurd (false≢true prunes)
+pub an_opening : (command : Command) (work : OpenWork) (reply : Reply) → IsOpenedBy command work → is_refusal reply ≡ false
+    → opens_as command reply ≡ true
+an_opening (Prune path) work reply does accepts = rw accepts refl
+an_opening (PruneAll path) work reply does accepts = rw accepts refl
+an_opening (Reblock fill) work reply does accepts = rw accepts refl
+an_opening other (pruning pfs kept) reply does accepts = absurd does
+an_opening other reblocking reply does accepts = absurd does
+
+pub prune_opens : (command : Command) → IsTrue (is_prune command) → IsTrue (opens_job command)
+prune_opens (Reblock fill) is = refl
+prune_opens other is = is
+
+reblock_closed : (command : Command) (reply : Reply) → IsReblock command → (IsTrue (opens_job command) → TellsRefusal reply)
+    → opens_as command reply ≡ false
+reblock_closed (Reblock fill) reply is refuses = rw (refuses refl) refl
+reblock_closed other reply is refuses = absurd is
 
 -- nor does any call that is asked
-pub served_closed : (command : Command) (reply : Reply) → IsServed command → (IsTrue (is_prune command) → TellsRefusal reply)
+pub served_closed : (command : Command) (reply : Reply) → IsServed command → (IsTrue (opens_job command) → TellsRefusal reply)
     → opens_as command reply ≡ false
-served_closed command reply (inl (inl answers)) refuses = no_opening command reply answers refuses
-served_closed command reply (inl (inr is)) refuses = subst (λ (c : Command). opens_as c reply ≡ false) (sym is) refl
+served_closed command reply (inl (inl answers)) refuses = no_opening command reply answers (λ prunes. refuses (prune_opens command prunes))
+served_closed command reply (inl (inr (inl is))) refuses = subst (λ (c : Command). opens_as c reply ≡ false) (sym is) refl
+served_closed command reply (inl (inr (inr is))) refuses = reblock_closed command reply is refuses
 served_closed command reply (inr (inl is)) refuses = subst (λ (c : Command). opens_as c reply ≡ false) (sym is) refl
 served_closed command reply (inr (inr is)) refuses = subst (λ (c : Command). opens_as c reply ≡ false) (sym is) refl
 
-pathless_opened : (known : Known) (e : Entry) → NamesNoPath e.call → (known_after_entry known e).opened ≡ known.opened
-pathless_opened known e (inl is) = opened_same known e (rw is refl) (rw is refl)
-pathless_opened known e (inr (inl is)) = opened_same known e (rw is refl) (rw is refl)
-pathless_opened known e (inr (inr is)) = opened_same known e (rw is refl) (rw is refl)
+reblock_names : (command : Command) → IsReblock command → named_opening command ≡ None
+reblock_names (Reblock fill) is = refl
+reblock_names other is = absurd is
 
-still_known : (known : Known) (e : Entry) (running : List OpenPrune) → (known_after_entry known e).opened ≡ known.opened
+pathless_opened : (known : Known) (e : Entry) → NamesNoPath e.call → OpensNothing e → (known_after_entry known e).opened ≡ known.opened
+pathless_opened known e (inl is) nothing = opened_same known e (rw is refl) (rw is refl)
+pathless_opened known e (inr (inl (inl is))) nothing = opened_same known e (rw is refl) (rw is refl)
+pathless_opened known e (inr (inl (inr is))) nothing = opened_same known e (rw is refl) (rw is refl)
+pathless_opened known e (inr (inr is)) nothing =
+    closed_same known e (reblock_closed e.call e.reply is (λ opens. nothing is)) (reblock_names e.call is)
+
+-- a known list of open calls has one with this opening id, that does such work
+abbrev pub HasWork : OpenWork → ℕ → List (ℕ × Command) → Type 0
+HasWork work opening opened = IsSomeAnd (find (λ (o : ℕ × Command). eqb o.0 opening) opened) (λ o. IsOpenedBy o.1 work)
+
+still_known : (known : Known) (e : Entry) (running : List OpenJob) → (known_after_entry known e).opened ≡ known.opened
     → e.id.0 ≡ known.last + 1 → AreKnownOpen known running → AreKnownOpen (known_after_entry known e) running
 still_known known e running same own =
     each_so (IsKnownOpen known) (IsKnownOpen (known_after_entry known e)) running (λ p was. record {
       drawn = (let drawn = was.drawn in omega (arith, drawn, own));
-      prunes = subst (λ (opened : List (ℕ × Command)). IsSomeAnd (find (λ (o : ℕ × Command). eqb o.0 p.opening) opened) (λ o. IsPrune o.1)) (sym same)
-          was.prunes;
+      opened = subst (HasWork p.work p.opening) (sym same) was.opened;
     })
 
--- a known list of open calls has a prune with this opening id
-abbrev HasPrune : ℕ → List (ℕ × Command) → Type 0
-HasPrune opening opened = IsSomeAnd (find (λ (o : ℕ × Command). eqb o.0 opening) opened) (λ o. IsPrune o.1)
-
--- the opening of a prune is known to be open beside those before it
-known_more : (known : Known) (e : Entry) (led : Led) (running : List OpenPrune) → opens e ≡ true → IsPrune e.call → e.id.0 ≡ known.last + 1
-    → AreKnownOpen known running → AreKnownOpen (known_after_entry known e) (running ++ prune_of e led ∷ [])
-known_more known e led running opened prunes own was =
+-- what was opened is known to be open beside those before it
+known_more : (known : Known) (e : Entry) (work : OpenWork) (running : List OpenJob) → opens e ≡ true → IsOpenedBy e.call work
+    → e.id.0 ≡ known.last + 1 → AreKnownOpen known running → AreKnownOpen (known_after_entry known e) (running ++ job_of e work ∷ [])
+known_more known e work running opened does own was =
     let after : Known = known_after_entry known e in
     let list : after.opened ≡ (e.id.0, e.call) ∷ known.opened = rw opened refl in
-    each_append (IsKnownOpen after) running (prune_of e led ∷ [])
+    each_append (IsKnownOpen after) running (job_of e work ∷ [])
     (each_so (IsKnownOpen known) (IsKnownOpen after) running (λ p is. record {
       drawn = (let drawn = is.drawn in omega (arith, drawn, own));
-      prunes = subst (HasPrune p.opening) (sym list) (rw (apart e.id.0 p.opening (let drawn = is.drawn in omega (arith, drawn, own))) is.prunes);
+      opened = subst (HasWork p.work p.opening) (sym list) (rw (apart e.id.0 p.opening (let drawn = is.drawn in omega (arith, drawn, own))) is.opened);
     }) was)
-    (record { drawn = omega arith; prunes = subst (HasPrune e.id.0) (sym list) (rw (eq-eqb e.id.0 e.id.0 refl) prunes) }, tt)
+    (record { drawn = omega arith; opened = subst (HasWork work e.id.0) (sym list) (rw (eq-eqb e.id.0 e.id.0 refl) does) }, tt)
 
 -- a fault is told by no ids of a pass
 pub fault_ends : (fault : Fault) → passed_ids (reply_to fault) ≡ None
@@ -179,7 +197,7 @@ fault_closed e fault is = by (is_housekeeping e.call) (is_refusal e.reply) (ap i
   by true false is = absurd (false≢true is)
   by false refuses is = refl
 
-module _ (first : ℕ) (start faults faults' : Counts) (last : ℕ) (running : List OpenPrune) (history : List Entry)
+module _ (first : ℕ) (start faults faults' : Counts) (last : ℕ) (running : List OpenJob) (history : List Entry)
     (so_known : IsCausedWith first start faults last running history) (counted : AreLater faults faults') where
   abbrev so_far : IsCausedFrom first start faults last history
   so_far = so_known.causes
@@ -217,7 +235,7 @@ module _ (first : ℕ) (start faults faults' : Counts) (last : ℕ) (running : L
   fault_numbers entry no_memory caused = tt
 
   pub goes_on : (event : Event) → HasCause faults' known event → passed_ids event.entry.reply ≡ None → event.entry.id.0 ≡ last + 1
-      → (running' : List OpenPrune) → AreKnownOpen (known_after_entry known event.entry) running'
+      → (running' : List OpenJob) → AreKnownOpen (known_after_entry known event.entry) running'
       → IsCausedWith first start faults' (last + 1) running' (history ++ event.entry ∷ [])
   goes_on event cause ends own running' opened =
       let push = known_after-push (known_at first start) so_far.events event in
@@ -259,19 +277,21 @@ module _ (first : ℕ) (start faults faults' : Counts) (last : ℕ) (running : L
 
       -- which was answered, and one that tells a fault
       pub answer_goes_on : (answered : Answered) → IsFormOf entry.call answered → entry.reply ≡ reply_in answered → MayReply last None entry.call entry.reply
-          → IsCausedWith first start faults' (last + 1) (running_after entry answered running) (history ++ entry ∷ [])
+          → IsCausedWith first start faults' (last + 1) (running_after entry (led_work answered) running) (history ++ entry ∷ [])
       answer_goes_on answered form is may =
           let here : MayReply known.last None entry.call entry.reply =
           subst (λ (n : ℕ). MayReply n None entry.call entry.reply) (sym so_far.last_is) may in
-          goes_on event (may_cause known event next None here faults') (may_end known event next None here) own (running_after entry answered running)
+          goes_on event (may_cause known event next None here faults') (may_end known event next None here) own
+          (running_after entry (led_work answered) running)
           (by answered form is) where
             by : (a : Answered) → IsFormOf entry.call a → entry.reply ≡ reply_in a
-                → AreKnownOpen (known_after_entry known entry) (running_after entry a running)
+                → AreKnownOpen (known_after_entry known entry) (running_after entry (led_work a) running)
             by (Replied reply) form_is told =
                 open_still (no_opening entry.call entry.reply served (λ prunes. subst TellsRefusal (sym told) (form_is prunes)))
             by (Opened led) form_is told =
-                known_more known entry led running (an_opening entry.call entry.reply form_is (ap is_refusal told)) (prune_is entry.call form_is) own_known
-                so_known.opened
+                let does = prune_is entry.call form_is in
+                known_more known entry (pruning led.pfs.0 led.kept) running
+                (an_opening entry.call (pruning led.pfs.0 led.kept) entry.reply does (ap is_refusal told)) does own_known so_known.opened
 
       pub fault_goes_on : (fault : Fault) → entry.reply ≡ reply_to fault → IsFaultCaused faults.disk faults'.disk fault
           → IsCausedWith first start faults' (last + 1) running (history ++ entry ∷ [])
@@ -281,40 +301,51 @@ module _ (first : ℕ) (start faults faults' : Counts) (last : ℕ) (running : L
           (subst (λ (r : Reply). NumbersOf faults' known entry r) (sym is) (fault_numbers entry fault caused)))
           (ap passed_ids is ∙ fault_ends fault) own running (open_still (fault_closed entry fault is))
 
-    -- a call that names no path
-    pathless_goes_on : NamesNoPath entry.call → (reply : Reply) → entry.reply ≡ reply → Contains (possible entry.call []) (number_of reply)
+    -- a call that names no path, and opens nothing
+    pathless_goes_on : NamesNoPath entry.call → OpensNothing entry → (reply : Reply) → entry.reply ≡ reply → Contains (possible entry.call []) (number_of reply)
         → passed_ids reply ≡ None → NumbersOf faults' known entry reply → IsCausedWith first start faults' (last + 1) running (history ++ entry ∷ [])
-    pathless_goes_on no_path reply is listed ends numbers =
+    pathless_goes_on no_path nothing reply is listed ends numbers =
         goes_on (event_of entry)
         (pathless_cause faults' known entry no_path left_known own_known
         (subst (λ (r : Reply). Contains (possible entry.call []) (number_of r)) (sym is) listed)
         (subst (λ (r : Reply). NumbersOf faults' known entry r) (sym is) numbers))
-        (ap passed_ids is ∙ ends) own running (still_known known entry running (pathless_opened known entry no_path) own_known so_known.opened)
+        (ap passed_ids is ∙ ends) own running (still_known known entry running (pathless_opened known entry no_path nothing) own_known so_known.opened)
 
     pathless_fault_goes_on : NamesNoPath entry.call → (fault : Fault) → entry.reply ≡ reply_to fault → IsFaultCaused faults.disk faults'.disk fault
         → IsCausedWith first start faults' (last + 1) running (history ++ entry ∷ [])
     pathless_fault_goes_on no_path fault is caused =
-        pathless_goes_on no_path (reply_to fault) is (fault_listed entry.call fault no_path) (fault_ends fault) (fault_numbers entry fault caused)
+        pathless_goes_on no_path (λ opens. ap is_refusal is ∙ fault_refuses fault) (reply_to fault) is (fault_listed entry.call fault no_path)
+        (fault_ends fault) (fault_numbers entry fault caused)
 
-    -- a `df` tells the space, or a fault
+    -- a `df` tells the space
     pub space_goes_on : entry.call ≡ Df → (pool spare : ℕ) → entry.reply ≡ Space pool spare
         → IsCausedWith first start faults' (last + 1) running (history ++ entry ∷ [])
-    space_goes_on call_is pool spare is = pathless_goes_on (inl call_is) (Space pool spare) is (space_listed entry.call pool spare call_is) refl tt
+    space_goes_on call_is pool spare is =
+        pathless_goes_on (inl call_is) (df_opens_nothing entry call_is) (Space pool spare) is (space_listed entry.call pool spare call_is) refl tt
 
-    pub space_fault_goes_on : entry.call ≡ Df → (fault : Fault) → entry.reply ≡ reply_to fault → IsFaultCaused faults.disk faults'.disk fault
-        → IsCausedWith first start faults' (last + 1) running (history ++ entry ∷ [])
-    space_fault_goes_on call_is = pathless_fault_goes_on (inl call_is)
+    -- a reblock is opened
+    pub reblock_goes_on : IsReblock entry.call → entry.reply ≡ Done
+        → IsCausedWith first start faults' (last + 1) (running ++ job_of entry reblocking ∷ []) (history ++ entry ∷ [])
+    reblock_goes_on reblock is =
+        goes_on (event_of entry)
+        (pathless_cause faults' known entry (inr (inr reblock)) left_known own_known
+        (subst (λ (r : Reply). Contains (possible entry.call []) (number_of r)) (sym is) (done_listed entry.call reblock))
+        (subst (λ (r : Reply). NumbersOf faults' known entry r) (sym is) tt))
+        (ap passed_ids is) own (running ++ job_of entry reblocking ∷ [])
+        (known_more known entry reblocking running (an_opening entry.call reblocking entry.reply reblock (ap is_refusal is)) reblock own_known
+        so_known.opened)
 
     -- a sync tells a boundary that was drawn, and no earlier one than was told
     pub sync_goes_on : IsSync entry.call → (boundary : Id) → entry.reply ≡ Synced boundary → boundary.0 ≤ last → AreUpTo boundary.0 history
         → IsCausedWith first start faults' (last + 1) running (history ++ entry ∷ [])
     sync_goes_on sync boundary is drawn told =
-        pathless_goes_on (inr sync) (Synced boundary) is (boundary_listed entry.call boundary sync) refl
+        pathless_goes_on (inr (inl sync)) (sync_opens_nothing entry sync) (Synced boundary) is (boundary_listed entry.call boundary sync) refl
         (boundary_known first boundary.0 start history so_far.events so_far.entries told, omega (arith, own, drawn))
 
     -- a call that is asked was refused with a fault
     pub refused_goes_on : IsServed entry.call → (fault : Fault) → entry.reply ≡ reply_to fault → IsFaultCaused faults.disk faults'.disk fault
         → IsCausedWith first start faults' (last + 1) running (history ++ entry ∷ [])
     refused_goes_on (inl (inl answers)) = fault_goes_on answers
-    refused_goes_on (inl (inr df)) = pathless_fault_goes_on (inl df)
-    refused_goes_on (inr sync) = pathless_fault_goes_on (inr sync)
+    refused_goes_on (inl (inr (inl df))) = pathless_fault_goes_on (inl df)
+    refused_goes_on (inl (inr (inr reblock))) = pathless_fault_goes_on (inr (inr reblock))
+    refused_goes_on (inr sync) = pathless_fault_goes_on (inr (inl sync))

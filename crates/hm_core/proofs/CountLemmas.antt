@@ -2,7 +2,8 @@
 use Rattle.std.proofs.Common.{ℕ, ◌<◌, ◌≤◌, max, Bool, true, false, List, arith}
 use Rattle.hm_types.specs.Faults.{IsMedia}
 use Rattle.hm_model.specs.After.{Event}
-use Rattle.hm_model.specs.Caused.{Counts, HasCause, HasNumbers, IsCutAt, Known, ended_command, is_output, counts_after, known_after, known_at, stream_count, stream_told}
+use Rattle.hm_model.specs.Caused.{Counts, HasCause, HasNumbers, IsCutAt, Known, ended_command, is_output}
+use Rattle.hm_model.specs.Caused.{counts_after, known_after, known_at, stream_count, stream_told}
 use Rattle.hm_model.specs.Legal.{IsLegal, MayFollow, Setting}
 use Rattle.hm_model.specs.declared.entry.Entry.{Entry}
 use Rattle.hm_model.specs.declared.reply.Reply.{Reply}

@@ -20,14 +20,18 @@ pub mod BoundaryLemmas
 pub mod PathlessLemmas
 pub mod SpaceLemmas
 pub mod RefusedLemmas
+pub mod ReblockLemmas
 pub mod CausedLemmas
 pub mod FaultLemmas
 pub mod KnownLemmas
 pub mod OpenLemmas
 pub mod LookedLemmas
 pub mod RepliedLemmas
+pub mod RetentionLemmas
 pub mod TurnLemmas
 pub mod AnswerLemmas
+pub mod ChoiceLemmas
+pub mod LackLemmas
 pub mod UnitLemmas
 pub mod PropLemmas
 pub mod StepLemmas
@@ -39,6 +43,7 @@ pub mod SyncLemmas
 pub mod EnterLemmas
 pub mod HeldLemmas
 pub mod CallLeavesLemmas
+pub mod MovedLemmas
 pub mod UnitFollowsLemmas
 pub mod RefusalLemmas
 pub mod JobEndLemmas
@@ -46,4 +51,5 @@ pub mod WorkLemmas
 pub mod EndLemmas
 pub mod TargetLemmas
 pub mod PlaceLemmas
+pub mod OutcomeLemmas
 pub mod OpenedJobLemmas

@@ -23,7 +23,7 @@ use Rattle.hm_state.specs.Flushing.{HoldsFlush}
 use Rattle.hm_state.specs.Volume.{HoldsVolume}
 use Rattle.hm_state.proofs.FlushKeptLemmas.{holds_same_flush}
 use Rattle.hm_core.specs.History.{IsLegalOver, setting_of}
-use Rattle.hm_core.specs.State.{OpenPrune}
+use Rattle.hm_core.specs.State.{OpenJob}
 use Rattle.hm_core.proofs.KeptLemmas.{IsSameBeside}
 
 module _ (old new : Heap) (looks : LooksSame old new) where
@@ -65,7 +65,8 @@ module _ (old new : Heap) (looks : LooksSame old new) where
     elements = (is.elements.0, held_same root is.elements.0 is.elements.1, is.elements.2);
   }
 
-  pub looked_legal : (free : ℕ) (start faults : Counts) (history : List Entry) (root last : ℕ) (running : List OpenPrune) (opening : Volume) (foreigners : Foreigners)
+  pub looked_legal : (free : ℕ) (start faults : Counts) (history : List Entry) (root last : ℕ) (running : List OpenJob) (opening : Volume)
+      (foreigners : Foreigners)
       (events : List Event) → IsLegalOver free start faults history old root last running opening foreigners events
       → IsLegalOver free start faults history new root last running opening foreigners events
   looked_legal free start faults history root last running opening foreigners events is = record {

@@ -47,7 +47,7 @@ use Rattle.hm_core.specs.Inside.{IsInOrder}
 use Rattle.hm_core.specs.Ledger.{IsPaid}
 use Rattle.hm_core.specs.Mounting.{CommitsWhatStands, CountsFree, HoldsWhatStands, IsHeaderOn, IsReadFrom}
 use Rattle.hm_core.specs.Opened.{IsMounted, MountsDisk}
-use Rattle.hm_core.specs.State.{CoreState, OpenPrune}
+use Rattle.hm_core.specs.State.{CoreState, OpenJob}
 use Rattle.hm_core.proofs.BeginLemmas.{first}
 use Rattle.hm_core.proofs.LedgerLemmas.{paid_first}
 use Rattle.hm_core.proofs.CountLemmas.{later_same}
@@ -193,7 +193,7 @@ ordered_first told header slot free h range chosen read = record {
   later = omega arith;
   target = λ flight. absurd (flight refl);
   greatest = range.last.1;
-  paid = subst (λ (n : ℕ). IsPaid free n 0 (room_of h)) read.free_is (paid_first free (room_of h));
+  paid = λ none. subst (λ (n : ℕ). IsPaid free n 0 (room_of h)) read.free_is (paid_first free (room_of h));
 }
 
 -- a core over a space that was read, with no history, and with an idle flush
@@ -224,7 +224,7 @@ module _ (core : CoreState) (header : Header) (slot : ℕ) (flush : core.flush �
         subst (λ (n : ℕ). HoldsVolume core.heap n core.last opening) (sym root)
         (subst (λ (n : ℕ). HoldsVolume core.heap header.root n opening) (sym ids.0) (holds opening stands)) in
         record {
-          legal = subst (λ (x : List Entry × List OpenPrune).
+          legal = subst (λ (x : List Entry × List OpenJob).
               IsLegalOver core.mounted.free core.mounted.counts core.counts x.0 core.heap core.root core.last x.1 opening foreigners [])
               (λ i. (sym new i, sym none i))
               (first core.mounted.free core.mounted.counts core.counts core.heap core.root core.last opening foreigners later held);

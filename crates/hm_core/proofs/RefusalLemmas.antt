@@ -16,13 +16,14 @@ use Rattle.hm_core.specs.History.{IsLegalOver}
 use Rattle.hm_core.specs.Inside.{IsInOrder}
 use Rattle.hm_core.specs.Served.{IsServed}
 use Rattle.hm_core.specs.Staged.{FailsStage, Refuses}
-use Rattle.hm_core.specs.State.{CoreState, Mounted, OpenPrune}
+use Rattle.hm_core.specs.State.{CoreState, Mounted, OpenJob}
 use Rattle.hm_core.specs.Told.{reply_to}
 use Rattle.hm_core.proofs.CausedLemmas.{fault_closed, refused_goes_on as caused_refused}
 use Rattle.hm_core.proofs.CoreLemmas.{goes_on_further}
 use Rattle.hm_core.proofs.EnterLemmas.{entered_by}
 use Rattle.hm_core.proofs.RefusedLemmas.{refused_call}
-use Rattle.hm_core.proofs.StepLemmas.{IsStageFault, boundary_drawn, entry_of, fault_untold, greatest_drawn, ordered_refused, stage_failure, target_drawn, untold_since}
+use Rattle.hm_core.proofs.StepLemmas.{IsStageFault, boundary_drawn, entry_of, fault_untold, greatest_drawn}
+use Rattle.hm_core.proofs.StepLemmas.{ordered_refused, stage_failure, target_drawn, untold_since}
 
 -- each reply of a core has its cause, and what is open is known to be
 abbrev pub IsCausedOpen : CoreState → Type 0
@@ -61,7 +62,7 @@ module _ (past since : LeftSince) (old mid : CoreState) (fails : FailsStage old 
 
     pub refused_caused : IsCausedOpen old → IsCausedOpen new
     refused_caused run = ∥∥₁_map run (λ from.
-        subst (λ (x : Mounted × ℕ × List OpenPrune × List Entry). IsCausedWith x.0.first x.0.counts mid.counts x.1 x.2 x.3)
+        subst (λ (x : Mounted × ℕ × List OpenJob × List Entry). IsCausedWith x.0.first x.0.counts mid.counts x.1 x.2 x.3)
         (λ i. (sym follows.mounted i, sym last_is i, sym fails.waits.running i, sym history_is i))
         (caused_refused old.mounted.first old.mounted.counts old.counts mid.counts old.last old.running old.history from follows.never_falls entry
         (subst (λ (n : ℕ). n < GREATEST_ID) fails.waits.last left) last_is served fault told failure.caused))

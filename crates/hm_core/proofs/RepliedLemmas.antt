@@ -34,7 +34,7 @@ use Rattle.hm_model.specs.declared.reply.Reply.TheVariants.{CrossPfs, IntoItself
 use Rattle.hm_model.specs.declared.reply.Reply.TheVariants.{IdsSpent, NoSpace, Media, Damaged, NoMemory, SharedDiffers, BeginDiffers, StreamBad, StreamShort}
 use Rattle.hm_model.specs.declared.reply.Reply.TheVariants.{StreamFault, EndPruned, Busy, NotLink, NotFile}
 use Rattle.hm_calls.specs.Call.{IsCall, OnCalls}
-use Rattle.hm_calls.specs.Answered.{AsksBeside, IsAnswerable, is_prune}
+use Rattle.hm_calls.specs.Answered.{AsksBeside, IsAnswerable}
 use Rattle.hm_calls.specs.Due.{due_over}
 use Rattle.hm_calls.specs.Possible.{IsOwn}
 use Rattle.hm_stored.specs.Basis.{states_of}
@@ -47,9 +47,10 @@ use Rattle.hm_step.proofs.NextCallLemmas.{numbers_so}
 use Rattle.hm_step.proofs.SeenLemmas.{shows_as}
 use Rattle.hm_state.proofs.SameLemmas.{held_firm}
 use Rattle.hm_core.specs.History.{IsLegalOver, setting_of}
+use Rattle.hm_core.specs.Open.{opens_job}
 use Rattle.hm_core.specs.Replied.{IsReplied, TellsMedia, free_now}
 use Rattle.hm_core.specs.Served.{IsSync}
-use Rattle.hm_core.specs.State.{OpenPrune}
+use Rattle.hm_core.specs.State.{OpenJob}
 use Rattle.hm_core.specs.Told.{Tells, TellsFailure, TellsHeld, reply_to, told_beside}
 
 -- as many big-blocks are free by the freemap of a space as its trees leave, where it holds elements
@@ -146,9 +147,9 @@ pub sync_alone : (command : Command) → IsSync command → IsAnswerable command
 sync_alone command (inl is) answers = subst IsAnswerable is answers
 sync_alone command (inr is) answers = subst IsAnswerable is answers
 
-pub sync_no_prune : (command : Command) → IsSync command → IsTrue (is_prune command) → ⊥
-sync_no_prune command (inl is) prunes = false≢true (sym (ap is_prune is) ∙ prunes)
-sync_no_prune command (inr is) prunes = false≢true (sym (ap is_prune is) ∙ prunes)
+pub sync_no_job : (command : Command) → IsSync command → IsTrue (opens_job command) → ⊥
+sync_no_job command (inl is) opens = false≢true (sym (ap opens_job is) ∙ opens)
+sync_no_job command (inr is) opens = false≢true (sym (ap opens_job is) ∙ opens)
 
 pub sync_no_space : (command : Command) → IsSync command → command ≡ Df → ⊥
 sync_no_space command (inl is) df = let same : Df ≡ Sync = sym df ∙ is in cc
@@ -167,7 +168,8 @@ entry_there history entry found place there is =
     ∙ last_entry history entry entry
 
 -- The call that comes next in a legal history is one that the elements of the space show, so its reply is due over it.
-module _ (free : ℕ) (start counts : Counts) (history : List Entry) (h : Heap) (root last : ℕ) (running : List OpenPrune) (opening : Volume) (foreigners : Foreigners)
+module _ (free : ℕ) (start counts : Counts) (history : List Entry) (h : Heap) (root last : ℕ) (running : List OpenJob) (opening : Volume)
+    (foreigners : Foreigners)
     (events : List Event) (event : Event) (numbers faults faults' : ℕ) where
   abbrev run : Setting
   run = setting_of free start counts opening foreigners

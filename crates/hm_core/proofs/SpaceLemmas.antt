@@ -1,4 +1,4 @@
--- A call that names no path, as the next one of a history: `df`, which tells the space, and the syncs.
+-- A call that names no path, as the next one of a history: `df`, which tells the space, the syncs, and a reblock that is refused.
 use Rattle.std.proofs.Common.{◌≡◌, ℕ, ◌+◌, ◌-◌, ◌<◌, ◌≤◌, max, false, inl, inr, List, [], ◌∷◌, ◌++◌}
 use Rattle.std.proofs.Common.{refl, sym, ap, subst, ◌∙◌, arith}
 use Rattle.std.specs.List.{Contains}
@@ -17,7 +17,7 @@ use Rattle.hm_model.specs.declared.command.Command.{Command}
 use Rattle.hm_model.specs.declared.command.Command.TheVariants.{Df}
 use Rattle.hm_model.specs.declared.entry.Entry.{Entry}
 use Rattle.hm_model.specs.declared.reply.Reply.{Reply}
-use Rattle.hm_model.specs.declared.reply.Reply.TheVariants.{NoMemory, Space, Synced}
+use Rattle.hm_model.specs.declared.reply.Reply.TheVariants.{Space, Synced}
 use Rattle.hm_model.proofs.EventLemmas.{after_events-push}
 use Rattle.hm_model.proofs.MadeLemmas.{last_known}
 use Rattle.hm_image.specs.StandFor.{StandFor}
@@ -29,17 +29,18 @@ use Rattle.hm_core.specs.Counts.{AreLater}
 use Rattle.hm_core.specs.History.{IsLegalBeyond, IsLegalOver, setting_of}
 use Rattle.hm_core.specs.Inside.{AreUpTo}
 use Rattle.hm_core.specs.Served.{IsSync}
-use Rattle.hm_core.specs.State.{OpenPrune}
+use Rattle.hm_core.specs.State.{OpenJob}
 use Rattle.hm_core.specs.Told.{HoldsSame, TellsFailure, TellsSpace}
 use Rattle.hm_core.proofs.BoundaryLemmas.{boundary_known}
 use Rattle.hm_core.proofs.CallLemmas.{drawn_next, floor_next, goes_on, left_next}
 use Rattle.hm_core.proofs.CountLemmas.{NumbersOf}
-use Rattle.hm_core.proofs.PathlessLemmas.{NamesNoPath, boundary_listed, event_of, fault_listed, space_listed}
+use Rattle.hm_core.proofs.PathlessLemmas.{NamesNoPath, OpensNothing, boundary_listed, df_opens_nothing}
+use Rattle.hm_core.proofs.PathlessLemmas.{event_of, fault_listed, space_listed, sync_opens_nothing}
 use Rattle.hm_core.proofs.PathlessLemmas.{pathless_accepted, pathless_after, pathless_allowed, pathless_cause, pathless_feeds, pathless_lands}
 use Rattle.hm_core.proofs.ReplyLemmas.{tells_no_pass}
 use Rattle.hm_core.proofs.StateLemmas.{holds_drawn}
 
-module _ (free : ℕ) (start faults faults' : Counts) (history : List Entry) (h : Heap) (root last : ℕ) (running : List OpenPrune) (opening : Volume)
+module _ (free : ℕ) (start faults faults' : Counts) (history : List Entry) (h : Heap) (root last : ℕ) (running : List OpenJob) (opening : Volume)
     (foreigners : Foreigners) (events : List Event) (so_far : IsLegalOver free start faults history h root last running opening foreigners events)
     (counted : AreLater faults faults') (left : last < GREATEST_ID) where
   -- the run with the count of now, and what it has come to
@@ -55,7 +56,7 @@ module _ (free : ℕ) (start faults faults' : Counts) (history : List Entry) (h 
   low : state.volume.last < GREATEST_ID
   low = left_next free start faults faults' history h root last running opening foreigners events so_far counted left
 
-  module _ (entry : Entry) (no_path : NamesNoPath entry.call) (own_is : entry.id.0 ≡ last + 1) where
+  module _ (entry : Entry) (no_path : NamesNoPath entry.call) (nothing : OpensNothing entry) (own_is : entry.id.0 ≡ last + 1) where
     abbrev event : Event
     event = event_of entry
 
@@ -97,7 +98,7 @@ module _ (free : ℕ) (start faults faults' : Counts) (history : List Entry) (h 
       after_is : state_after run (events ++ event ∷ []) ≡ on_volume state (after_call false call)
       after_is =
           after_events-push (opening_state opening foreigners) events event
-          ∙ (pathless_after run events entry no_path ∙ ap (λ (n : ℕ). on_volume state (record state.volume { last = n })) last_is)
+          ∙ (pathless_after run events entry no_path nothing ∙ ap (λ (n : ℕ). on_volume state (record state.volume { last = n })) last_is)
 
       -- a space holds the volume after it that holds what was held
       told_so : (h' : Heap) (root' : ℕ) → h'.bigblocks ≡ h.bigblocks → HoldsSame h root h' root'
@@ -142,10 +143,11 @@ module _ (free : ℕ) (start faults faults' : Counts) (history : List Entry) (h 
   pub sync_told : (entry : Entry) (boundary : Id) → IsSync entry.call → entry.id.0 ≡ last + 1 → entry.reply ≡ Synced boundary → boundary.0 ≤ last
       → AreUpTo boundary.0 history → IsLegalBeyond free start faults' (history ++ entry ∷ []) h root (last + 1) running opening foreigners events
   sync_told entry boundary sync own_is reply_is drawn told =
-      told_here entry (inr sync) own_is (subst (MayTell entry (inr sync) own_is) (sym reply_is) (record {
+      told_here entry (inr (inl sync)) (sync_opens_nothing entry sync) own_is
+      (subst (MayTell entry (inr (inl sync)) (sync_opens_nothing entry sync) own_is) (sym reply_is) (record {
         listed = boundary_listed entry.call boundary sync;
         numbers = (boundary_known opening.last boundary.0 start history events so_far.entries told, omega (arith, own_is, drawn));
-        allowed = pathless_accepted run events entry (inr sync) (Synced boundary) low (accepted entry.call sync);
+        allowed = pathless_accepted run events entry (inr (inl sync)) (Synced boundary) low (accepted entry.call sync);
         names = λ accepts. tt;
         undamaged = tt;
       })) where
@@ -163,7 +165,8 @@ module _ (free : ℕ) (start faults faults' : Counts) (history : List Entry) (h 
         floor_next free start faults faults' history h root last running opening foreigners events so_far counted spare enough,
         most,
       ) in
-      told_here entry (inl call_is) own_is (subst (MayTell entry (inl call_is) own_is) (sym reply_is) (record {
+      told_here entry (inl call_is) (df_opens_nothing entry call_is) own_is
+      (subst (MayTell entry (inl call_is) (df_opens_nothing entry call_is) own_is) (sym reply_is) (record {
         listed = space_listed entry.call pool spare call_is;
         numbers = tt;
         allowed = pathless_accepted run events entry (inl call_is) (Space pool spare) low
@@ -172,9 +175,3 @@ module _ (free : ℕ) (start faults faults' : Counts) (history : List Entry) (h 
         names = λ accepts. tt;
         undamaged = tt;
       }))
-
-  -- or memory was refused
-  pub space_refused : (entry : Entry) → entry.call ≡ Df → entry.id.0 ≡ last + 1 → entry.reply ≡ NoMemory
-      → IsLegalBeyond free start faults' (history ++ entry ∷ []) h root (last + 1) running opening foreigners events
-  space_refused entry call_is own_is reply_is =
-      pathless_refused entry (inl call_is) own_is h root (record { told = inr reply_is; holds = λ es holds. holds; size = refl })

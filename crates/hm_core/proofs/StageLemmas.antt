@@ -136,7 +136,7 @@ module _ (core : CoreState) (f' : Flush) (h' : Heap) (result : Result Stage Faul
         later = ids.later;
         target = ids.target;
         greatest = o.greatest;
-        paid = paid_still core.mounted.free (length core.history) o.paid;
+        paid = λ none. paid_still core.mounted.free (length core.history) (o.paid none);
       }
 
 -- What a disk says of what a crash may leave: before a step nothing else since the moment of its start, and after it no more since a

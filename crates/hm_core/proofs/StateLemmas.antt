@@ -1,4 +1,4 @@
--- What a call that ends no other one leaves of a state: the size of its volume, its last id, and which prunes are open.
+-- What a call that ends no other one leaves of a state: the size of its volume, its last id, and which calls are open.
 use Rattle.std.proofs.Common.{◌≡◌, ◌≢◌, ℕ, ◌+◌, ◌<◌, ◌≤◌, Bool, true, false, List, [], ◌∷◌, ◌++◌, None, Some, refl, sym, ap, subst, ◌∙◌, arith, eqb}
 use Rattle.std.proofs.Common.{eqb-true, nat_eq}
 use Rattle.std.specs.Prelude.{IsTrue, if◌then◌else◌}
@@ -15,7 +15,7 @@ use Rattle.hm_model.specs.Legal.{IsAllowed, Setting, call_after, floor_after, st
 use Rattle.hm_model.specs.Reply.{is_refusal, passed_ids}
 use Rattle.hm_model.specs.Volume.{Volume, new_master}
 use Rattle.hm_model.specs.declared.command.Command.{Command}
-use Rattle.hm_model.specs.declared.command.Command.TheVariants.{PfsMaster, PfsSlave, Prune, PruneAll}
+use Rattle.hm_model.specs.declared.command.Command.TheVariants.{PfsMaster, PfsSlave, Prune, PruneAll, Reblock}
 use Rattle.hm_model.specs.declared.entry.Entry.{Entry}
 use Rattle.hm_model.proofs.ChangeLemmas.{versioned}
 use Rattle.hm_model.proofs.EventLemmas.{after_events-push}
@@ -23,7 +23,6 @@ use Rattle.hm_calls.specs.Answered.{IsAnswerable, is_prune}
 use Rattle.hm_calls.specs.Prunes.{command_of}
 use Rattle.hm_calls.specs.Replies.{is_change}
 use Rattle.hm_calls.specs.declared.new_systems.NewSystem.TheVariants.{Master, Slave}
-use Rattle.hm_calls.specs.declared.pruning.Led.{Led}
 use Rattle.hm_calls.specs.declared.pruning.Pruning.{Pruning}
 use Rattle.hm_calls.proofs.AnsweredLemmas.{KindOf, kind_of, makes, on_trees, on_trees_no_prune, opens as of_prune, tells as of_status}
 use Rattle.hm_image.specs.StandFor.{StandFor}
@@ -31,14 +30,13 @@ use Rattle.hm_stored.specs.Heap.{Heap}
 use Rattle.hm_stored.specs.Standing.{Holds}
 use Rattle.hm_prune.specs.Dead.{keeps_in}
 use Rattle.hm_search.proofs.ListLemmas.{each_append, each_so}
-use Rattle.hm_step.specs.Next.{IsLed}
-use Rattle.hm_step.specs.Pruned.{StillKeeps}
+use Rattle.hm_step.specs.Pruned.{KeepsEnough, StillKeeps}
 use Rattle.hm_step.specs.Step.{after_call}
 use Rattle.hm_step.proofs.EventLemmas.{served_no_opening, state_after as state_unopened, state_opened, state_refused}
-use Rattle.hm_core.specs.Answer.{prune_of}
+use Rattle.hm_core.specs.Answer.{job_of}
 use Rattle.hm_core.specs.History.{HoldsState}
-use Rattle.hm_core.specs.Open.{AreOpen, IsOpenIn, IsPrune}
-use Rattle.hm_core.specs.State.{OpenPrune}
+use Rattle.hm_core.specs.Open.{AreOpen, IsWorkOn, IsOpenIn, IsOpenedBy, IsPrune, ids_kept_by}
+use Rattle.hm_core.specs.State.{OpenJob, OpenWork, pruning as to_prune, reblocking}
 use Rattle.hm_core.proofs.ReplyLemmas.{reply_allowed, tells_no_pass}
 
 -- a call that changes a volume leaves its size
@@ -107,18 +105,18 @@ served_next run before event served own allowed =
     (tells_no_pass (floor_after run before) (call_after run before event) event.entry.reply
     (reply_allowed run before event (served_no_opening event.entry.call served) allowed)) own)
 
--- ---- which prunes are open
+-- ---- which calls are open
 
--- the prunes that are open in a state are so in one with the same open calls, for whose volume is enough what was so before
-pub open_same : (running : List OpenPrune) (state after : State) → after.opened ≡ state.opened → StillKeeps state.volume after.volume
+-- those that are open in a state are so in one with the same open calls, for whose volume is enough what was so before
+pub open_same : (running : List OpenJob) (state after : State) → after.opened ≡ state.opened → StillKeeps state.volume after.volume
     → state.volume.last ≤ after.volume.last → AreOpen running state → AreOpen running after
 open_same running state after same keeps later opened = record {
   each = each_so (IsOpenIn state) (IsOpenIn after) running (λ p was. record {
     call = was.call;
     found = ap (opened_with p.opening) same ∙ was.found;
-    prunes = was.prunes;
-    pfs = was.pfs;
-    enough = keeps (keeps_in p.pfs p.kept) was.enough;
+    opened = was.opened;
+    on = was.on;
+    enough = keeps (ids_kept_by p.work) was.enough;
     drawn = (let drawn = was.drawn in omega (arith, drawn, later));
   }) opened.each;
   idle = ap busy_in same ∙ opened.idle;
@@ -135,68 +133,75 @@ prune_is (Prune path) is = tt
 prune_is (PruneAll path) is = tt
 prune_is other is = absurd (false≢true is)
 
-no_pass : (command : Command) → IsPrune command → is_pass command ≡ false
-no_pass (Prune path) is = refl
-no_pass (PruneAll path) is = refl
-no_pass other is = absurd is
+no_pass : (command : Command) (work : OpenWork) → IsOpenedBy command work → is_pass command ≡ false
+no_pass (Prune path) work is = refl
+no_pass (PruneAll path) work is = refl
+no_pass (Reblock fill) work is = refl
+no_pass other (to_prune pfs kept) is = absurd is
+no_pass other reblocking is = absurd is
 
 -- what a prune keeps is told of its own pseudo file system alone
-kept_there : (pfs : ℕ) (kept : List (ℕ × ℕ)) → keeps_in pfs kept pfs ≡ Some kept
+pub kept_there : (pfs : ℕ) (kept : List (ℕ × ℕ)) → keeps_in pfs kept pfs ≡ Some kept
 kept_there pfs kept = rw (eq-eqb pfs pfs refl) refl
 
-kept_elsewhere : (pfs : ℕ) (kept : List (ℕ × ℕ)) (other : ℕ) → other ≢ pfs → keeps_in pfs kept other ≡ None
+pub kept_elsewhere : (pfs : ℕ) (kept : List (ℕ × ℕ)) (other : ℕ) → other ≢ pfs → keeps_in pfs kept other ≡ None
 kept_elsewhere pfs kept other differs = by (nat_eq other pfs) refl where
   by : (test : Bool) → nat_eq other pfs ≡ test → (if test then Some kept else None) ≡ None
   by true is = absurd (differs (eqb-true other pfs is))
   by false is = refl
 
--- with a prune that an entry opened by the id of its call, which led to what the volume keeps
-module _ (running : List OpenPrune) (state after : State) (call : Call) (entry : Entry) (led : Led) (opens : IsTrue (is_prune call.command))
+-- a reblock tells nothing to keep
+pub none_kept : (volume : Volume) → KeepsEnough (ids_kept_by reblocking) volume
+none_kept volume = record { within = λ pfs s found. tt; of_systems = λ pfs. tt }
+
+-- with what an entry opened by the id of its call: such work on a PFS, for which it keeps enough
+module _ (running : List OpenJob) (state after : State) (call : Call) (entry : Entry) (work : OpenWork) (pfs : ℕ)
+    (opens : IsOpenedBy call.command work) (there : IsWorkOn pfs work)
     (here : call.volume ≡ state.volume) (own : entry.id.0 ≡ own_id call) (last : after.volume.last ≡ own_id call)
-    (same : after.opened ≡ (with_opened state call led.pfs.0 led.pfs.0 no_feed).opened) (leads : IsLed after.volume led)
+    (same : after.opened ≡ (with_opened state call pfs pfs no_feed).opened) (enough : KeepsEnough (ids_kept_by work) after.volume)
     (keeps : StillKeeps state.volume after.volume) (opened : AreOpen running state) where
   abbrev all_open : List OpenCall
-  all_open = (with_opened state call led.pfs.0 led.pfs.0 no_feed).opened
+  all_open = (with_opened state call pfs pfs no_feed).opened
 
   own_next : own_id call ≡ state.volume.last + 1
   own_next = ap (λ (v : Volume). v.last + 1) here
 
-  old_one : (p : OpenPrune) → IsOpenIn state p → IsOpenIn after p
+  old_one : (p : OpenJob) → IsOpenIn state p → IsOpenIn after p
   old_one p was = record {
     call = was.call;
     found = ap (opened_with p.opening) same ∙ (rw (apart (own_id call) p.opening (let drawn = was.drawn in omega (arith, drawn, own_next))) was.found);
-    prunes = was.prunes;
-    pfs = was.pfs;
-    enough = keeps (keeps_in p.pfs p.kept) was.enough;
+    opened = was.opened;
+    on = was.on;
+    enough = keeps (ids_kept_by p.work) was.enough;
     drawn = (let drawn = was.drawn in omega (arith, drawn, own_next, last));
   }
 
-  new_one : IsOpenIn after (prune_of entry led)
+  new_one : IsOpenIn after (job_of entry work)
   new_one = record {
     call = record {
       opening = own_id call;
       command = call.command;
-      pfs = led.pfs.0;
-      master = led.pfs.0;
-      origin = origin_of state.volume led.pfs.0;
+      pfs = pfs;
+      master = pfs;
+      origin = origin_of state.volume pfs;
       stream = no_feed;
     };
     found = ap (opened_with entry.id.0) same ∙ rw (eq-eqb (own_id call) entry.id.0 (sym own)) refl;
-    prunes = prune_is call.command opens;
-    pfs = refl;
-    enough = leads.enough (keeps_in led.pfs.0 led.kept) (kept_there led.pfs.0 led.kept) (kept_elsewhere led.pfs.0 led.kept);
+    opened = opens;
+    on = there;
+    enough = enough;
     drawn = omega (arith, own, last);
   }
 
-  pub open_more : AreOpen (running ++ prune_of entry led ∷ []) after
+  pub open_more : AreOpen (running ++ job_of entry work ∷ []) after
   open_more = record {
-    each = each_append (IsOpenIn after) running (prune_of entry led ∷ []) (each_so (IsOpenIn state) (IsOpenIn after) running old_one opened.each)
+    each = each_append (IsOpenIn after) running (job_of entry work ∷ []) (each_so (IsOpenIn state) (IsOpenIn after) running old_one opened.each)
         (new_one, tt);
-    idle = ap busy_in same ∙ (rw (no_pass call.command (prune_is call.command opens)) opened.idle);
+    idle = ap busy_in same ∙ (rw (no_pass call.command work opens) opened.idle);
   }
 
--- a space holds the state after a call, in which these prunes are open
-pub holds_after : (h h' : Heap) (root root' last : ℕ) (running running' : List OpenPrune) (state after : State) (call : Call) (es : List FullElement)
+-- a space holds the state after a call, in which these calls are open
+pub holds_after : (h h' : Heap) (root root' last : ℕ) (running running' : List OpenJob) (state after : State) (call : Call) (es : List FullElement)
     → HoldsState h root last running state → call.volume ≡ state.volume → IsNextTo call after → h'.bigblocks ≡ h.bigblocks → Holds h' root' es
     → StandFor es after.volume → AreOpen running' after → HoldsState h' root' (last + 1) running' after
 holds_after h h' root root' last running running' state after call es held of_state next same holds stand opened = record {
@@ -209,7 +214,7 @@ holds_after h h' root root' last running running' state after call es held of_st
 }
 
 -- the same after a call that drew its id alone
-pub holds_drawn : (h h' : Heap) (root root' last : ℕ) (running : List OpenPrune) (state after : State) (call : Call) (es : List FullElement)
+pub holds_drawn : (h h' : Heap) (root root' last : ℕ) (running : List OpenJob) (state after : State) (call : Call) (es : List FullElement)
     → HoldsState h root last running state → call.volume ≡ state.volume → after ≡ on_volume state (after_call false call) → h'.bigblocks ≡ h.bigblocks
     → Holds h' root' es → StandFor es after.volume → HoldsState h' root' (last + 1) running after
 holds_drawn h h' root root' last running state after call es held of_state is same holds stand =

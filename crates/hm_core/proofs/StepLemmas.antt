@@ -1,7 +1,9 @@
 -- One step of a core.
-use Rattle.std.proofs.Common.{inl, inr, ℕ, ◌+◌, ◌-◌, ◌≤◌, ◌<◌, Bool, true, false, List, [], ◌∷◌, ◌++◌, length, length-append, refl, sym, subst, ◌∙◌, ◌≡◌, ◌≢◌, arith, cond}
+use Rattle.std.proofs.Common.{inl, inr, ℕ, ◌+◌, ◌-◌, ◌≤◌, ◌<◌, Bool, true, false, List, [], ◌∷◌, ◌++◌}
+use Rattle.std.proofs.Common.{length, length-append, refl, sym, subst, ◌∙◌, ◌≡◌, ◌≢◌, arith, cond}
 use Rattle.std.specs.Option.{option_map_or}
-use Rattle.std.specs.Prelude.{IfSome, None, Option, Some, Result, Err}
+use Rattle.std.specs.Prelude.{IfSome, IsFalse, None, Option, Some, Result, Err}
+use Rattle.std.specs.List.{list_any}
 use Rattle.std.proofs.Math.Logic.{∥∥₁_elim}
 use Rattle.std.proofs.Props.{props}
 use Rattle.std.proofs.lemmas.List.Elements.{Contains-append_cases}
@@ -23,22 +25,21 @@ use Rattle.hm_flush.specs.Flush.{IsGroupAt, IsGroupOf}
 use Rattle.hm_stored.specs.Flushed.{IsFlushedBy}
 use Rattle.hm_image.proofs.ListLemmas.{only_one}
 use Rattle.hm_model.specs.Caused.{boundary_in}
-use Rattle.hm_model.specs.Needs.{floor}
+use Rattle.hm_model.specs.Needs.{floor, moved_space}
 use Rattle.hm_model.specs.Reply.{told_boundary}
 use Rattle.hm_model.specs.declared.command.Command.{Command}
 use Rattle.hm_model.specs.declared.entry.Entry.{Entry}
 use Rattle.hm_model.specs.declared.reply.Reply.{Reply}
 use Rattle.hm_stored.specs.Heap.{Heap, free_of, room_of}
 use Rattle.hm_stored.specs.Turn.{IsClosed}
-use Rattle.hm_calls.specs.Answered.{reply_in}
-use Rattle.hm_calls.specs.declared.answered.Answered.{Answered}
 use Rattle.hm_core.specs.Answer.{AnswersOver, IsEntryOf}
 use Rattle.hm_core.specs.Core.{TellsBoundary}
 use Rattle.hm_core.specs.Inside.{AreDrawnBy, AreUpTo, IsInOrder}
 use Rattle.hm_core.specs.Ledger.{IsPaid}
 use Rattle.hm_core.specs.Served.{IsSync}
+use Rattle.hm_core.specs.State.{OpenWork}
 use Rattle.hm_core.specs.Told.{TellsFailure, reply_to}
-use Rattle.hm_core.proofs.FloorLemmas.{floor_paid}
+use Rattle.hm_core.proofs.FloorLemmas.{floor_paid, none_before}
 use Rattle.hm_core.proofs.PropLemmas.{flushed_prop}
 use Rattle.hm_core.proofs.TurnLemmas.{paid_later}
 
@@ -139,7 +140,8 @@ module _ (f : Flush) (last free : ℕ) (h : Heap) (history : List Entry) where
 
   -- with an entry more all is in order, over a space that is
   pub ordered_more : (h' : Heap) (entry : Entry) → last < GREATEST_ID → entry.id.0 ≡ last + 1 → boundary_in entry.reply ≤ f.header.last.0
-      → IsFlushedBy f h' → IsPaid free (free_of h') (length history + 1) (room_of h') → IsInOrder f last free h history
+      → IsFlushedBy f h' → (IsFalse (list_any moved_space history) → IsPaid free (free_of h') (length history + 1) (room_of h'))
+      → IsInOrder f last free h history
       → IsInOrder f (last + 1) free h' (history ++ entry ∷ [])
   ordered_more h' entry left own told ready paid o = record {
     ready = ready;
@@ -148,26 +150,29 @@ module _ (f : Flush) (last free : ℕ) (h : Heap) (history : List Entry) where
     later = (let later = o.later in omega (arith, later));
     target = λ flies. (let old = o.target flies in let second = old.1 in (old.0, omega (arith, second)));
     greatest = omega (arith, left);
-    paid = subst (λ (n : ℕ). IsPaid free (free_of h') n (room_of h')) (sym (length-append history (entry ∷ []))) paid;
+    paid = λ none. subst (λ (n : ℕ). IsPaid free (free_of h') n (room_of h')) (sym (length-append history (entry ∷ [])))
+        (paid (none_before history entry none));
   }
 
   -- so it is after a call that a store answered
-  pub ordered_next : (h' : Heap) (root root' numbers faults faults' : ℕ) (command : Command) (answered : Answered) (entry : Entry) → last < GREATEST_ID
-      → IsEntryOf last command (reply_in answered) entry
-      → AnswersOver numbers f.header.last.0 faults faults' last command h h' root root' answered → IsInOrder f last free h history
+  pub ordered_next : (h' : Heap) (root root' numbers faults faults' : ℕ) (command : Command) (reply : Reply) (opened : Option OpenWork) (entry : Entry)
+      → last < GREATEST_ID → IsEntryOf last command reply entry
+      → AnswersOver numbers f.header.last.0 faults faults' last command h h' root root' reply opened → IsInOrder f last free h history
       → IsInOrder f (last + 1) free h' (history ++ entry ∷ [])
-  ordered_next h' root root' numbers faults faults' command answered entry left is answers o =
-      ordered_more h' entry left is.own (subst (λ (r : Reply). boundary_in r ≤ f.header.last.0) (sym is.reply_is) (told_in f.header.last.0 command (reply_in answered) answers.told)) (record {
+  ordered_next h' root root' numbers faults faults' command reply opened entry left is answers o =
+      ordered_more h' entry left is.own
+      (subst (λ (r : Reply). boundary_in r ≤ f.header.last.0) (sym is.reply_is) (told_in f.header.last.0 command reply answers.told)) (record {
         closed = answers.closed;
         bigblocks = o.ready.bigblocks ∙ sym answers.flush.bigblocks;
         group = group_same f h.pages h'.pages answers.flush.pages o.ready.group;
         stands = answers.flush.stands f o.ready.stands;
-      }) (answers.paid free (length history) o.paid) o
+      }) (λ none. answers.paid free (length history) (o.paid none)) o
 
   -- and with the entry of a call that was refused over this space
   pub ordered_refused : (entry : Entry) → last < GREATEST_ID → entry.id.0 ≡ last + 1 → boundary_in entry.reply ≤ f.header.last.0
       → IsInOrder f last free h history → IsInOrder f (last + 1) free h (history ++ entry ∷ [])
-  ordered_refused entry left own told o = ordered_more h entry left own told o.ready (paid_later free (free_of h) (length history) (room_of h) o.paid) o
+  ordered_refused entry left own told o =
+      ordered_more h entry left own told o.ready (λ none. paid_later free (free_of h) (length history) (room_of h) (o.paid none)) o
 
 -- a fault tells no boundary
 pub fault_untold : (boundary : ℕ) (fault : Fault) (reply : Reply) → reply ≡ reply_to fault → boundary_in reply ≤ boundary

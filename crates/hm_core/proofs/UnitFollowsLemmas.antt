@@ -1,6 +1,7 @@
 -- A core follows itself over a unit of one of its open prunes, and what a crash within may leave.
 use Rattle.std.proofs.Common.{◌≡◌, ℕ, List, [], append-nil, length, refl, sym, subst, ◌∙◌, arith, Some}
-use Rattle.std.specs.Prelude.{Option}
+use Rattle.std.specs.Prelude.{IsFalse, Option}
+use Rattle.std.specs.List.{list_any}
 use Rattle.hm_disk.specs.Moments.{LeftSince}
 use Rattle.hm_flush.specs.declared.flush.Flush.{Flush}
 use Rattle.hm_flush.specs.Flush.{tried}
@@ -8,14 +9,16 @@ use Rattle.hm_model.specs.After.{Event}
 use Rattle.hm_model.specs.Foreign.{Foreigners}
 use Rattle.hm_model.specs.Volume.{Volume}
 use Rattle.hm_model.specs.declared.entry.Entry.{Entry}
-use Rattle.hm_prune.specs.Dead.{keeps_in}
-use Rattle.hm_stored.specs.Heap.{Heap}
+use Rattle.hm_model.specs.Needs.{moved_space}
+use Rattle.hm_stored.specs.Heap.{Heap, free_of, room_of}
 use Rattle.hm_core.specs.Core.{Follows, GoesOnOverEach, IsGuarded, IsSoundCore, LeavesHeld, StandsOver}
 use Rattle.hm_core.specs.Counts.{with_disk}
 use Rattle.hm_core.specs.Crash.{IsBetween, IsLeftBoundary, LeavesNow, LeavesPrefixes}
 use Rattle.hm_core.specs.History.{IsLegalOver}
 use Rattle.hm_core.specs.Inside.{IsInOrder}
-use Rattle.hm_core.specs.State.{CoreState, OpenPrune, prune_with}
+use Rattle.hm_core.specs.Ledger.{IsPaid}
+use Rattle.hm_core.specs.Open.{ids_kept_by}
+use Rattle.hm_core.specs.State.{CoreState, OpenJob, job_with}
 use Rattle.hm_core.specs.Unit.{UnitLeaves}
 use Rattle.hm_core.proofs.CoreLemmas.{goes_on_by_none}
 use Rattle.hm_core.proofs.CountLemmas.{disk_later}
@@ -24,8 +27,9 @@ use Rattle.hm_core.proofs.HeldLemmas.{guarded_still, held_still, read_still}
 use Rattle.hm_core.proofs.StepLemmas.{group_same}
 use Rattle.hm_core.proofs.UnitLemmas.{uncounted, unit_legal}
 
-module _ (past since : LeftSince) (core : CoreState) (h' : Heap) (root' faults' id : ℕ) (p : OpenPrune)
-    (found : prune_with id core.running ≡ Some p) (begun : IsSoundCore core) (leaves : UnitLeaves (keeps_in p.pfs p.kept) core.counts.disk faults' core.last core.heap h' core.root root')
+module _ (past since : LeftSince) (core : CoreState) (h' : Heap) (root' faults' id : ℕ) (p : OpenJob)
+    (found : job_with id core.running ≡ Some p) (begun : IsSoundCore core) (leaves : UnitLeaves (ids_kept_by p.work) core.counts.disk faults' core.last
+    core.heap h' core.root root')
     (crash : LeavesNow past since h'.disk) where
   abbrev after : CoreState
   after = record core { heap = h'; root = root'; counts = with_disk core.counts faults' }
@@ -34,9 +38,10 @@ module _ (past since : LeftSince) (core : CoreState) (h' : Heap) (root' faults' 
     module _ (opening : Volume) (foreigners : Foreigners) (events : List Event) (stands : StandsOver core opening foreigners events) where
       abbrev LegalWith : ℕ → Type 0
       LegalWith faults =
-          IsLegalOver core.mounted.free core.mounted.counts (with_disk core.counts faults) core.history h' root' core.last core.running opening foreigners events
+          IsLegalOver core.mounted.free core.mounted.counts (with_disk core.counts faults) core.history h' root' core.last core.running opening foreigners
+          events
 
-      legal_with : (faults : ℕ) → UnitLeaves (keeps_in p.pfs p.kept) core.counts.disk faults core.last core.heap h' core.root root' → LegalWith faults
+      legal_with : (faults : ℕ) → UnitLeaves (ids_kept_by p.work) core.counts.disk faults core.last core.heap h' core.root root' → LegalWith faults
       legal_with faults leaves = unit_legal id p core.counts.disk faults core.last core.heap h' core.root root' core.running found leaves core.mounted.free
           core.mounted.counts core.counts core.history opening foreigners events stands.legal
 
@@ -53,7 +58,7 @@ module _ (past since : LeftSince) (core : CoreState) (h' : Heap) (root' faults' 
           begun.between (λ boundary mine. refl) (held was)
 
     -- by any count of faults by which the history is legal
-    goes_on_with : (faults : ℕ) → UnitLeaves (keeps_in p.pfs p.kept) core.counts.disk faults core.last core.heap h' core.root root'
+    goes_on_with : (faults : ℕ) → UnitLeaves (ids_kept_by p.work) core.counts.disk faults core.last core.heap h' core.root root'
         → GoesOnOverEach past since core (record after { counts = with_disk core.counts faults })
     goes_on_with faults leaves opening foreigners events stands =
         goes_on_by_none past since core (record after { counts = with_disk core.counts faults }) opening foreigners events (record {
@@ -68,7 +73,7 @@ module _ (past since : LeftSince) (core : CoreState) (h' : Heap) (root' faults' 
     pub unit_uncounted : GoesOnOverEach past since core (record after { counts = core.counts })
     unit_uncounted =
         goes_on_with core.counts.disk
-        (uncounted (keeps_in p.pfs p.kept) core.counts.disk faults' core.last core.heap h' core.root root' leaves)
+        (uncounted (ids_kept_by p.work) core.counts.disk faults' core.last core.heap h' core.root root' leaves)
 
     pub unit_follows : Follows past since core after
     unit_follows = record {
@@ -83,8 +88,10 @@ module _ (past since : LeftSince) (core : CoreState) (h' : Heap) (root' faults' 
 
 -- it leaves a core in order
 pub ordered_unit : (ids : ℕ → Option (List (ℕ × ℕ))) (faults faults' : ℕ) (h h' : Heap) (root root' : ℕ) (f : Flush) (last free : ℕ) (history : List Entry)
-    → UnitLeaves ids faults faults' last h h' root root' → IsInOrder f last free h history → IsInOrder f last free h' history
-ordered_unit ids faults faults' h h' root root' f last free history leaves o = record {
+    → UnitLeaves ids faults faults' last h h' root root'
+    → (IsFalse (list_any moved_space history) → IsPaid free (free_of h) (length history) (room_of h) → IsPaid free (free_of h') (length history) (room_of h'))
+    → IsInOrder f last free h history → IsInOrder f last free h' history
+ordered_unit ids faults faults' h h' root root' f last free history leaves pays o = record {
   ready = record {
     closed = leaves.closed;
     bigblocks = o.ready.bigblocks ∙ sym leaves.flush.bigblocks;
@@ -96,18 +103,18 @@ ordered_unit ids faults faults' h h' root root' f last free history leaves o = r
   later = o.later;
   target = o.target;
   greatest = o.greatest;
-  paid = leaves.paid free (length history) o.paid;
+  paid = λ none. pays none (o.paid none);
 }
 
 -- a core with other words for the same open calls, and for the same room
-pub same_core : (core : CoreState) (running : List OpenPrune) (spare : ℕ) → running ≡ core.running → spare ≡ core.spare
+pub same_core : (core : CoreState) (running : List OpenJob) (spare : ℕ) → running ≡ core.running → spare ≡ core.spare
     → record core { running = running; spare = spare } ≡ core
 same_core core running spare same room = λ i. record core { running = same i; spare = room i }
 
 -- the core after it, with its open calls as they are kept
-module _ (past since : LeftSince) (core : CoreState) (h' : Heap) (root' faults' id : ℕ) (p : OpenPrune) (found : prune_with id core.running ≡ Some p)
-    (begun : IsSoundCore core) (leaves : UnitLeaves (keeps_in p.pfs p.kept) core.counts.disk faults' core.last core.heap h' core.root root')
-    (crash : LeavesNow past since h'.disk) (running' : List OpenPrune) (spare' : ℕ) (same : running' ≡ core.running) (room : spare' ≡ core.spare) where
+module _ (past since : LeftSince) (core : CoreState) (h' : Heap) (root' faults' id : ℕ) (p : OpenJob) (found : job_with id core.running ≡ Some p)
+    (begun : IsSoundCore core) (leaves : UnitLeaves (ids_kept_by p.work) core.counts.disk faults' core.last core.heap h' core.root root')
+    (crash : LeavesNow past since h'.disk) (running' : List OpenJob) (spare' : ℕ) (same : running' ≡ core.running) (room : spare' ≡ core.spare) where
   abbrev plain : CoreState
   plain = record core { heap = h'; root = root'; counts = with_disk core.counts faults' }
 

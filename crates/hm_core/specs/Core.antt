@@ -15,13 +15,16 @@ use Rattle.hm_model.specs.declared.entry.Entry.{Entry}
 use Rattle.hm_model.specs.declared.reply.Reply.{Reply}
 use Rattle.hm_state.specs.Flushing.{HoldsFlush}
 use Rattle.hm_state.specs.Live.{AreLiveSettled}
+use Rattle.hm_state.specs.Volume.{HoldsVolume}
 use Rattle.hm_core.specs.Caused.{IsCausedFrom}
 use Rattle.hm_core.specs.History.{IsLegalOver, up_to, volume_of}
 use Rattle.hm_core.specs.Counts.{AreLater}
 use Rattle.hm_core.specs.Crash.{HasHeaderOf, IsBetween, IsLeftBoundary, LeavesPrefixes, RecoversToPrefix}
+use Rattle.hm_core.specs.Answer.{KeepsAs}
 use Rattle.hm_core.specs.Inside.{AreUpTo}
+use Rattle.hm_core.specs.Open.{IsOpenedBy}
 use Rattle.hm_core.specs.Served.{IsSync}
-use Rattle.hm_core.specs.State.{CoreDevices, CoreState, OpenPrune, prune_with}
+use Rattle.hm_core.specs.State.{CoreDevices, CoreState, OpenJob, job_with}
 use Rattle.hm_core.specs.declared.step.Step.{Step}
 use Rattle.hm_core.specs.declared.step.Step.TheVariants.{Answered, MustFlush, Opened, Spent}
 
@@ -134,18 +137,25 @@ pub record EndsAtOnce (old new : CoreState) (lane line since : ℕ) (command : C
   pub closed : opens enters.entry ≡ false
   pub running : new.running ≡ old.running
 
--- The opening of a prune was accepted and entered, with this id, and the prune is open beside the others, with the lane and the line of its
--- opening.
+-- Where a core stood for a volume, a prune keeps exactly the ids that the volume which its space holds now keeps of its PFS.
+abbrev pub KeepsAsVolume : CoreState → CoreState → OpenJob → Type 0
+KeepsAsVolume old new p = (opening : Volume) (foreigners : Foreigners) (events : List Event) → StandsOver old opening foreigners events
+    → (volume : Volume) → HoldsVolume new.heap new.root new.last volume → KeepsAs volume p.work
+
+-- The opening of a call of housekeeping was accepted and entered, with this id, and the call is open beside the others, with the lane and the
+-- line of its opening, and does what its command says. A prune keeps what the volume keeps of its PFS by then, no id more and no id fewer.
 pub record OpensJob (old new : CoreState) (lane line since : ℕ) (command : Command) (opening : ℕ) : Type 0 where
   pub enters : Enters old new lane line since command
   pub accepted : opens enters.entry ≡ true
-  pub prune : OpenPrune
-  pub own : (prune.opening ≡ opening) × (prune.lane ≡ lane) × (prune.line ≡ line)
+  pub job : OpenJob
+  pub own : (job.opening ≡ opening) × (job.lane ≡ lane) × (job.line ≡ line)
+  pub does : IsOpenedBy command job.work
   pub named : enters.entry.id.0 ≡ opening
-  pub running : new.running ≡ old.running ++ prune ∷ []
-  pub found : prune_with opening new.running ≡ Some prune
+  pub running : new.running ≡ old.running ++ job ∷ []
+  pub found : job_with opening new.running ≡ Some job
+  pub keeps : KeepsAsVolume old new job
 
--- A call was answered and entered, or the opening of a prune was, and the flush is as before; or it waits for a flush, and is handed back;
+-- A call was answered and entered, or an opening of housekeeping was, and the flush is as before; or it waits for a flush, and is handed back;
 -- or no id was left. In both of these all is as before.
 abbrev pub Steps : CoreState → CoreState → ℕ → ℕ → ℕ → Command → Step → Type 0
 Steps old new lane line since command (Answered place) =

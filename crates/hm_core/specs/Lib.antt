@@ -14,6 +14,7 @@ pub mod Live
 pub mod Replied
 pub mod Answer
 pub mod Unit
+pub mod Chosen
 pub mod Seen
 pub mod Crash
 pub mod Core

@@ -8,7 +8,7 @@ use Rattle.hm_types.specs.References.{free_blocks}
 use Rattle.hm_model.specs.Call.{Call}
 use Rattle.hm_model.specs.Volume.{Volume}
 use Rattle.hm_model.specs.declared.command.Command.{Command}
-use Rattle.hm_model.specs.declared.command.Command.TheVariants.{Df}
+use Rattle.hm_model.specs.declared.command.Command.TheVariants.{Df, Reblock}
 use Rattle.hm_model.specs.declared.entry.Entry.{Entry}
 use Rattle.hm_model.specs.declared.reply.Reply.{Reply}
 use Rattle.hm_model.specs.declared.reply.Reply.TheVariants.{Done, Listing, Content, Status, Target, Synced, MadePfs, PfsIs, Space, Finished, Passed, Cut}
@@ -88,7 +88,7 @@ TellsMedia old new NotFile = Unit {0}
 -- The reply of a call over a space, over which the count of the device's faults went from one to another. Of a call on names, on the
 -- bytes of files or on pseudo file systems it is the one that each such call is due whose trees the elements show, by the next id: `no space` exactly where
 -- the zones that lack room are more than the big-blocks that are free and not held back, with both numbers. `df` tells the pool and
--- how many are free. Or it tells that the device failed in this call, or want of memory.
+-- how many are free, and a reblock is opened. Or it tells that the device failed in this call, or want of memory.
 pub record IsReplied (numbers faults faults' last : ℕ) (command : Command) (h : Heap) (root : ℕ) (reply : Reply) : Type 0 where
   pub media : TellsMedia faults faults' reply
   pub due : IsAnswerable command
@@ -96,6 +96,7 @@ pub record IsReplied (numbers faults faults' last : ℕ) (command : Command) (h 
       → (reply ≡ due_over call (room_of h) (free_now h root)) ⊎ TellsFailure faults faults' reply)
   pub space : command ≡ Df → OnHeld h root last (λ _. (reply ≡ Space (h.bigblocks - first_pool h.bigblocks) (free_now h root))
       ⊎ TellsFailure faults faults' reply)
+  pub reblock : (fill : ℕ) → command ≡ Reblock fill → OnHeld h root last (λ _. (reply ≡ Done) ⊎ TellsFailure faults faults' reply)
 
 -- the reply of a call that was answered, over the space and the counts of the core as it began
 abbrev pub RepliesExactly : CoreState → CoreState → Command → Step → Type 0

@@ -4,10 +4,11 @@ use Rattle.hm_model.specs.Forms.{IsInRange}
 use Rattle.hm_model.specs.declared.command.Command.{Command}
 use Rattle.hm_model.specs.declared.command.Command.TheVariants.{Df, Sync, Synctid}
 use Rattle.hm_calls.specs.Answered.{IsAnswerable}
+use Rattle.hm_core.specs.Open.{IsReblock}
 
--- a call that a store answers: on names, on the bytes of files, or on pseudo file systems; or one that tells the space
+-- a call that a store answers: on names, on the bytes of files, or on pseudo file systems; or one that tells the space, or opens a reblock
 abbrev pub IsOnStore : Command → Type 0
-IsOnStore command = IsAnswerable command ⊎ (command ≡ Df)
+IsOnStore command = IsAnswerable command ⊎ ((command ≡ Df) ⊎ IsReblock command)
 
 -- a call that waits until all that was answered before it is committed
 abbrev pub IsSync : Command → Type 0

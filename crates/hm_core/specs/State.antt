@@ -12,28 +12,32 @@ pub record Mounted : Type 0 where
   pub free : ℕ
   pub counts : Counts
 
--- A prune that is open: the id, the lane and the line of its opening, the PFS that it works on, and the ids that it keeps there.
-pub record OpenPrune : Type 0 where
+-- What an open call of housekeeping does: it prunes a PFS, of which it keeps these ids, or it reblocks the volume.
+pub data OpenWork : Type 0 where
+  pruning : ℕ → List (ℕ × ℕ) → OpenWork
+  reblocking : OpenWork
+
+-- A call of housekeeping that is open: the id, the lane and the line of its opening, and what it does.
+pub record OpenJob : Type 0 where
   pub opening : ℕ
   pub lane : ℕ
   pub line : ℕ
-  pub pfs : ℕ
-  pub kept : List (ℕ × ℕ)
+  pub work : OpenWork
 
--- the open prune that was opened with an id, and those that are open beside it
-abbrev pub prune_with : ℕ → List OpenPrune → Option OpenPrune
-prune_with opening running = find (λ (p : OpenPrune). p.opening == opening) running
+-- the open call that was opened with an id, and those that are open beside it
+abbrev pub job_with : ℕ → List OpenJob → Option OpenJob
+job_with opening running = find (λ (p : OpenJob). p.opening == opening) running
 
-abbrev pub prunes_beside : ℕ → List OpenPrune → List OpenPrune
-prunes_beside opening running = filter (λ (p : OpenPrune). if p.opening == opening then false else true) running
+abbrev pub jobs_beside : ℕ → List OpenJob → List OpenJob
+jobs_beside opening running = filter (λ (p : OpenJob). if p.opening == opening then false else true) running
 
--- The run's history, the prunes that are open, and how many more entries there is room for beside the endings of
+-- The run's history, the calls of housekeeping that are open, and how many more entries there is room for beside the endings of
 -- these; the last id that was drawn, and the last one that is committed; what there was at mounting, and the counts of faults by now; the
 -- header that counts on the disk and how far a flush has come; what its space holds, and where the tree begins in it. No device is part of
 -- it.
 pub record CoreState : Type 0 where
   pub history : List Entry
-  pub running : List OpenPrune
+  pub running : List OpenJob
   pub spare : ℕ
   pub last : ℕ
   pub boundary : ℕ

@@ -5,6 +5,8 @@ use Rattle.hm_types.specs.Faults.{IsMedia}
 use Rattle.hm_types.specs.Layout.{first_pool}
 use Rattle.hm_types.specs.declared.fault.Fault.{Fault}
 use Rattle.hm_types.specs.declared.fault.Fault.TheVariants.{Damaged as damage, Media as device, NoMemory as no_memory}
+use Rattle.hm_types.specs.declared.fault.SpaceFault.{SpaceFault}
+use Rattle.hm_types.specs.declared.fault.SpaceFault.TheVariants.{Fault as of_store, NoSpace as no_space}
 use Rattle.hm_fields.specs.Fields.{AreBytes}
 use Rattle.hm_key.specs.Balance.{IsBalanced, content_of}
 use Rattle.hm_key.specs.Extents.{Extent}
@@ -14,7 +16,7 @@ use Rattle.hm_cursor.specs.Told.{Lists, fulls}
 use Rattle.hm_model.specs.Needs.{floor}
 use Rattle.hm_model.specs.declared.entry.Entry.{Entry}
 use Rattle.hm_model.specs.declared.reply.Reply.{Reply}
-use Rattle.hm_model.specs.declared.reply.Reply.TheVariants.{Damaged, Media, NoMemory, Space}
+use Rattle.hm_model.specs.declared.reply.Reply.TheVariants.{Damaged, Media, NoMemory, NoSpace, Space}
 use Rattle.hm_calls.specs.declared.answered.Beside.{Beside}
 use Rattle.hm_stored.specs.Heap.{Heap}
 use Rattle.hm_stored.specs.Known.{AreKnown}
@@ -59,6 +61,11 @@ abbrev pub reply_to : Fault → Reply
 reply_to (device before after) = Media before after
 reply_to (damage at kind) = Damaged at kind
 reply_to no_memory = NoMemory
+
+-- the reply that tells why a unit stopped
+abbrev pub reply_to_stop : SpaceFault → Reply
+reply_to_stop (of_store fault) = reply_to fault
+reply_to_stop (no_space free needed) = NoSpace free needed
 
 -- A reply tells that the device failed within a call, over which the count of its faults went from one to another; or that
 -- memory was refused.

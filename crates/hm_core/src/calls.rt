@@ -5,11 +5,14 @@ ghost use Rattle.hm_model.specs.Forms.{IsInRange};
 ghost use Rattle.hm_calls.specs.Answered.{IsAnswerable};
 ghost use Rattle.hm_stored.specs.Space.{heap};
 ghost use Rattle.hm_stored.specs.Turn.{IsClosed};
-ghost use Rattle.hm_core.specs.Answer.{AnswersOver};
+ghost use Rattle.hm_core.specs.Answer.{AnswersOver, reply_of_outcome, work_of};
+ghost use Rattle.hm_core.specs.Chosen.{BeginsBy};
 ghost use Rattle.hm_core.specs.Crash.{LeavesNow};
+ghost use Rattle.hm_core.specs.Running.{IfOpened, choice_of_work};
 ghost use Rattle.hm_core.specs.Told.{reply_to};
 
-use hm_calls::{Answered, Beside};
+use crate::outcome::{Outcome, outcome_of};
+use hm_calls::Beside;
 use hm_disk::Disk;
 use hm_model::{Command, Reply};
 use hm_step::answer_next;
@@ -30,15 +33,16 @@ pub fn answer_over<D: Disk>(
     command: &Command,
     last: Id,
     numbers: u32,
-) -> Answered
+) -> Outcome
     requires closed { IsClosed (heap stored.old.space) }
     requires served { IsAnswerable command.now × IsInRange command.now }
     requires left { last.0 < GREATEST_ID }
     ensures answers { (boundary : ℕ) → AnswersOver numbers boundary (D.faults stored.old.space.disk)
         (D.faults stored.new.space.disk) last.0 command.now
-        (heap stored.old.space) (heap stored.new.space) stored.old.root stored.new.root result }
+        (heap stored.old.space) (heap stored.new.space) stored.old.root stored.new.root (reply_of_outcome result) (work_of result) }
     ensures crashes { LeavesNow (D.left_since stored.old.space.disk) (D.left_since stored.new.space.disk)
         (D.told stored.new.space.disk) }
+    ensures begins { IfOpened result (λ work. BeginsBy command.now (heap stored.old.space) (choice_of_work work)) }
 {
     what_a_crash_leaves_over_calls::<D>();
     stored.begin(last);
@@ -50,15 +54,15 @@ pub fn answer_over<D: Disk>(
         Ok(answered) if stored.can_keep() => {
             stored.keep();
             stored.pages_are_bytes();
-            answered
+            outcome_of(answered)
         }
         Ok(_) => {
             stored.undo();
-            Answered::Replied(Reply::NoMemory)
+            Outcome::Replied(Reply::NoMemory)
         }
         Err(fault) => {
             stored.undo();
-            Answered::Replied(failure(fault))
+            Outcome::Replied(failure(fault))
         }
     }
 }

@@ -1,33 +1,47 @@
 // The units of open calls of housekeeping, and their endings.
-ghost use Rattle.std.specs.Prelude.{◌≡◌};
+ghost use Rattle.std.specs.Prelude.{◌≡◌, IfNone, IfOk};
+ghost use Rattle.hm_core.specs.Told.{reply_to_stop};
 
 use crate::calls::failure;
 use crate::running::close;
 use crate::ticket::{Ticket, UnitEnd};
-use crate::unit::unit_over;
 use crate::volume::Core;
+use crate::work::work_over;
 use hm_disk::Disk;
 use hm_key::Progress;
 use hm_model::{Command, Entry, Reply};
-use hm_types::{FULL_GROUP_PAGES, Fault, GREATEST_ID, Id};
+use hm_types::{FULL_GROUP_PAGES, GREATEST_ID, Id, SpaceFault};
 
 impl<D: Disk, I, O> Core<D, I, O> {
     ghost use Rattle.hm_core.specs.Core.{Follows, GoesOnOverEach, KeepsStreams, LeavesHeld};
-    ghost use Rattle.hm_core.specs.Jobs.{DoesUnit, IsOpenPrune, UnitKeepsLive, Units, DoesWork};
+    ghost use Rattle.hm_core.specs.Jobs.{DoesUnit, DoesWork, GetsOnIfMore, HasWorked, IfMoreWorked};
+    ghost use Rattle.hm_core.specs.Jobs.{IsOpenJob, UnitKeepsLive, Units};
     ghost use Rattle.hm_core.specs.Live.{CallKeepsLive};
     ghost use Rattle.hm_core.specs.Running.{place_among};
-    ghost use Rattle.hm_core.specs.Seen.{devices, seen};
+    ghost use Rattle.hm_core.specs.Chosen.{KeepOtherChoices, LeavesAt, LeavesBy, LeavesByUnit};
+    ghost use Rattle.hm_core.specs.Seen.{choice_of, devices, progress_of, seen};
 
     /// Does one unit of the call that a ticket names, which must be open; or makes one stage of a flush,
-    /// where the group of changed pages is full. Nothing else is written than what that writes.
+    /// where the group of changed pages is full. Nothing else is written than what that writes. There is
+    /// more to do only where that stage was made or, in a core whose space holds a volume, the unit got
+    /// on. That of a prune came further, or an element went or was moved. That of a reblock came further
+    /// with the payloads, moved one or left none of them in its choice, moved a node out of it, or turned
+    /// to the nodes.
     ///
     /// Where the call comes to its end, its ending is entered by the next id, with the lane and the line
     /// of its opening; it has its place in the history. `Finished` tells that nothing is left that is
-    /// dead for what the prune keeps. A unit or stage that fails ends the call too: its reply tells the
-    /// fault, what that unit changed is dropped, and the units before it stand.
+    /// dead for what a prune keeps, and that the choice of a reblock is empty. A unit or stage that fails
+    /// ends the call too: its reply tells the fault, what that unit changed is dropped, and the units
+    /// before it stand. So does a unit of a reblock that needs a big-block where none is free: `NoSpace`.
     pub fn job_unit(&mut self, ticket: Ticket) -> UnitEnd
-        requires runs { IsOpenPrune ticket.opening.0 (seen self.old) }
+        requires runs { IsOpenJob ticket.opening.0 (seen self.old) }
         ensures units { Units ticket.opening.0 (seen self.old) (seen self.new) result }
+        ensures more { IfMoreWorked ticket.opening.0 (progress_of ticket.opening.0 self.old) (progress_of ticket.opening.0 self.new)
+            (choice_of ticket.opening.0 self.old) (choice_of ticket.opening.0 self.new) (seen self.old) (seen self.new) result }
+        ensures choice { LeavesByUnit (choice_of ticket.opening.0 self.old) (choice_of ticket.opening.0 self.new)
+            (seen self.old) (seen self.new) result }
+        ensures others { KeepOtherChoices ticket.opening.0 (λ id. choice_of id self.old) (λ id. choice_of id self.new)
+            (seen self.old).running }
         ensures follows { Follows (D.left_since (devices self.old).disk) (D.left_since (devices self.new).disk)
             (seen self.old) (seen self.new) }
         ensures crashes { LeavesHeld (D.left_since (devices self.old).disk) (D.left_since (devices self.new).disk)
@@ -65,8 +79,14 @@ impl<D: Disk, I, O> Core<D, I, O> {
     // Does a unit, or makes a stage, and answers the reply of the ending that is due then. The core goes
     // on also as if no fault had been counted meanwhile: so the ending can tell one.
     fn work(&mut self, opening: Id) -> Option<Reply>
-        requires runs { IsOpenPrune opening.0 (seen self.old) }
+        requires runs { IsOpenJob opening.0 (seen self.old) }
         ensures works { DoesWork opening.0 (seen self.old) (seen self.new) result }
+        ensures more { IfNone result (HasWorked opening.0 (progress_of opening.0 self.old) (progress_of opening.0 self.new)
+            (choice_of opening.0 self.old) (choice_of opening.0 self.new) (seen self.old) (seen self.new)) }
+        ensures choice { LeavesBy (choice_of opening.0 self.old) (choice_of opening.0 self.new)
+            (seen self.old).heap (seen self.new).heap result }
+        ensures others { KeepOtherChoices opening.0 (λ id. choice_of id self.old) (λ id. choice_of id self.new)
+            (seen self.old).running }
         ensures follows { Follows (D.left_since (devices self.old).disk) (D.left_since (devices self.new).disk)
             (seen self.old) (seen self.new) }
         ensures uncounted { GoesOnOverEach (D.left_since (devices self.old).disk) (D.left_since (devices self.new).disk)
@@ -86,14 +106,20 @@ impl<D: Disk, I, O> Core<D, I, O> {
         match self.do_unit(opening) {
             Ok(Progress::More) => None,
             Ok(Progress::Done) => Some(Reply::Finished),
-            Err(fault) => Some(failure(fault)),
+            Err(fault) => Some(stop_reply(fault)),
         }
     }
 
     // Does a unit.
-    fn do_unit(&mut self, opening: Id) -> Result<Progress, Fault>
-        requires runs { IsOpenPrune opening.0 (seen self.old) }
+    fn do_unit(&mut self, opening: Id) -> Result<Progress, SpaceFault>
+        requires runs { IsOpenJob opening.0 (seen self.old) }
         ensures does { DoesUnit opening.0 (seen self.old) (seen self.new) result }
+        ensures more { IfOk result (GetsOnIfMore opening.0 (progress_of opening.0 self.old) (progress_of opening.0 self.new)
+            (choice_of opening.0 self.old) (choice_of opening.0 self.new) (seen self.old) (seen self.new)) }
+        ensures choice { IfOk result (LeavesAt (choice_of opening.0 self.old) (choice_of opening.0 self.new)
+            (seen self.old).heap (seen self.new).heap) }
+        ensures others { KeepOtherChoices opening.0 (λ id. choice_of id self.old) (λ id. choice_of id self.new)
+            (seen self.old).running }
         ensures follows { Follows (D.left_since (devices self.old).disk) (D.left_since (devices self.new).disk)
             (seen self.old) (seen self.new) }
         ensures uncounted { GoesOnOverEach (D.left_since (devices self.old).disk) (D.left_since (devices self.new).disk)
@@ -105,7 +131,7 @@ impl<D: Disk, I, O> Core<D, I, O> {
     {
         self.core_is_sound();
         let at = self.place_of(opening);
-        let result = unit_over(&mut self.stored, &mut self.running[at].prune, self.last);
+        let result = work_over(&mut self.stored, &mut self.running[at].work, self.last);
         self.core_is_sound();
         result
     }
@@ -120,5 +146,15 @@ impl<D: Disk, I, O> Core<D, I, O> {
             place += 1;
         }
         place
+    }
+}
+
+// The reply that tells why a unit stopped.
+fn stop_reply(fault: SpaceFault) -> Reply
+    ensures { result ≡ reply_to_stop fault }
+{
+    match fault {
+        SpaceFault::NoSpace { free, needed } => Reply::NoSpace { free, needed },
+        SpaceFault::Fault(fault) => failure(fault),
     }
 }

@@ -36,7 +36,7 @@ ghost use Rattle.hm_stored.specs.Known.{AreKnown, is_known};
 ghost use Rattle.hm_stored.specs.Standing.{Holds};
 ghost use Rattle.hm_stored.specs.Told.{elements_told};
 ghost use Rattle.hm_stored.specs.Turn.{IsClosed};
-ghost use Rattle.hm_core.specs.Answer.{running_after};
+ghost use Rattle.hm_core.specs.Answer.{led_work, running_after};
 ghost use Rattle.hm_core.specs.Calls.{Fails, IsNextCall, Serves};
 ghost use Rattle.hm_core.specs.Core.{Follows, IsSoundCore};
 ghost use Rattle.hm_core.specs.Counts.{AreLater};
@@ -46,7 +46,7 @@ ghost use Rattle.hm_core.specs.Ledger.{IsPaid};
 ghost use Rattle.hm_core.specs.Numbers.{numbers_told};
 ghost use Rattle.hm_core.specs.Replied.{IsReplied, free_now};
 ghost use Rattle.hm_core.specs.Served.{IsServed, IsSync};
-ghost use Rattle.hm_core.specs.State.{CoreState, OpenPrune};
+ghost use Rattle.hm_core.specs.State.{CoreState, OpenJob};
 ghost use Rattle.hm_core.specs.Told.{ArePages, HoldsSame, HoldsTold, OpensStore, TellsFailure, TellsHeld, TellsSpace, reply_to};
 ghost use Rattle.hm_state.specs.Volume.{HoldsVolume};
 
@@ -77,7 +77,7 @@ pub fn a_core_begins_with_no_history()
 /// call opened is open then. The store knows nothing of the volume.
 pub fn a_served_call_goes_on<T: ElementStore + Extents>()
     ensures { (free : ℕ) (start faults faults' : Counts) (history : List Entry) (h h' : Heap)
-        (root root' last : ℕ) (running : List OpenPrune) (opening : Volume) (foreigners : Foreigners) (events : List Event)
+        (root root' last : ℕ) (running : List OpenJob) (opening : Volume) (foreigners : Foreigners) (events : List Event)
         (entry : Entry) (numbers : ℕ) (answered : Answered) (old new : T) →
         IsLegalOver free start faults history h root last running opening foreigners events →
         UsedBelow numbers (volume_of opening foreigners events) →
@@ -85,14 +85,14 @@ pub fn a_served_call_goes_on<T: ElementStore + Extents>()
         Serves T.elements T.extents T.free (floor free history) numbers last entry answered old new h h' root root' →
         IsFormOf entry.call answered →
         IsLegalBeyond free start faults' (history ++ entry ∷ []) h' root' (last + 1)
-        (running_after entry answered running) opening foreigners events }
+        (running_after entry (led_work answered) running) opening foreigners events }
 {}
 
 /// A call that failed: the same, where the device failed or memory was refused, and the space that
 /// came of it holds what the one before held.
 pub fn a_failed_call_goes_on()
     ensures { (free : ℕ) (start faults faults' : Counts) (history : List Entry) (h h' : Heap)
-        (root root' last : ℕ) (running : List OpenPrune) (opening : Volume) (foreigners : Foreigners) (events : List Event)
+        (root root' last : ℕ) (running : List OpenJob) (opening : Volume) (foreigners : Foreigners) (events : List Event)
         (entry : Entry) →
         IsLegalOver free start faults history h root last running opening foreigners events →
         AreLater faults faults' → IsNextCall last entry → Fails faults.disk faults'.disk entry h h' root root' →
@@ -103,7 +103,7 @@ pub fn a_failed_call_goes_on()
 /// least: the same, and the space stays.
 pub fn a_call_that_tells_space_goes_on()
     ensures { (free : ℕ) (start faults faults' : Counts) (history : List Entry) (h : Heap)
-        (root last : ℕ) (running : List OpenPrune) (opening : Volume) (foreigners : Foreigners) (events : List Event)
+        (root last : ℕ) (running : List OpenJob) (opening : Volume) (foreigners : Foreigners) (events : List Event)
         (entry : Entry) →
         IsLegalOver free start faults history h root last running opening foreigners events →
         AreLater faults faults' → last < GREATEST_ID → entry.call ≡ Df → entry.id.0 ≡ last + 1 →
@@ -115,7 +115,7 @@ pub fn a_call_that_tells_space_goes_on()
 /// most this one.
 pub fn a_sync_goes_on()
     ensures { (free : ℕ) (start faults faults' : Counts) (history : List Entry) (h : Heap)
-        (root last : ℕ) (running : List OpenPrune) (opening : Volume) (foreigners : Foreigners) (events : List Event)
+        (root last : ℕ) (running : List OpenJob) (opening : Volume) (foreigners : Foreigners) (events : List Event)
         (entry : Entry) (boundary : Id) →
         IsLegalOver free start faults history h root last running opening foreigners events →
         AreLater faults faults' → last < GREATEST_ID → IsSync entry.call → entry.id.0 ≡ last + 1 →
@@ -128,7 +128,7 @@ pub fn a_sync_goes_on()
 /// before held.
 pub fn a_refused_call_goes_on()
     ensures { (free : ℕ) (start faults faults' : Counts) (history : List Entry) (h h' : Heap)
-        (root root' last : ℕ) (running : List OpenPrune) (opening : Volume) (foreigners : Foreigners) (events : List Event)
+        (root root' last : ℕ) (running : List OpenJob) (opening : Volume) (foreigners : Foreigners) (events : List Event)
         (entry : Entry) →
         IsLegalOver free start faults history h root last running opening foreigners events →
         AreLater faults faults' → last < GREATEST_ID → IsServed entry.call → entry.id.0 ≡ last + 1 →
@@ -235,7 +235,7 @@ pub fn as_many_are_free_as_the_trees_leave()
 /// trees that the space has, or it tells a failure.
 pub fn a_reply_is_due_in_its_history()
     ensures { (free : ℕ) (start counts : Counts) (history : List Entry) (h : Heap) (root last : ℕ)
-        (running : List OpenPrune) (opening : Volume) (foreigners : Foreigners) (events : List Event) (event : Event)
+        (running : List OpenJob) (opening : Volume) (foreigners : Foreigners) (events : List Event) (event : Event)
         (numbers faults faults' : ℕ) →
         IsLegalOver free start counts history h root last running opening foreigners events →
         IsAnswerable event.entry.call →

@@ -1,12 +1,12 @@
 // Which commands are served.
 ghost use Rattle.std.specs.Prelude.{◌≡◌, ◌↔◌, IsTrue};
-ghost use Rattle.hm_calls.specs.Answered.{is_prune};
+ghost use Rattle.hm_core.specs.Open.{opens_job};
 ghost use Rattle.hm_core.specs.Served.{IsServed, IsSync};
 
 use hm_model::Command;
 
 /// Whether a core serves a command: the calls on names, on the bytes of files and on pseudo file systems,
-/// prunes, `df`, `sync` and `synctid`. `pfs-upgrade`, mirror calls and `reblock` are not served yet.
+/// prunes, `reblock`, `df`, `sync` and `synctid`. `pfs-upgrade` and mirror calls are not served yet.
 pub fn is_served(command: &Command) -> bool
     ensures { IsTrue result ↔ IsServed command.now }
 {
@@ -32,6 +32,7 @@ pub fn is_served(command: &Command) -> bool
             | Command::PfsStatus { .. }
             | Command::Prune { .. }
             | Command::PruneAll { .. }
+            | Command::Reblock { .. }
             | Command::Df
             | Command::Sync
             | Command::Synctid
@@ -45,9 +46,12 @@ pub(crate) fn is_sync(command: &Command) -> bool
     matches!(command, Command::Sync | Command::Synctid)
 }
 
-/// Whether a command opens a prune.
-pub(crate) fn is_prune(command: &Command) -> bool
-    ensures { result ≡ is_prune command.now }
+/// Whether a command opens a call of housekeeping.
+pub(crate) fn opens_job(command: &Command) -> bool
+    ensures { result ≡ opens_job command.now }
 {
-    matches!(command, Command::Prune { .. } | Command::PruneAll { .. })
+    matches!(
+        command,
+        Command::Prune { .. } | Command::PruneAll { .. } | Command::Reblock { .. }
+    )
 }

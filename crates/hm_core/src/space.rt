@@ -1,8 +1,7 @@
 // A call that tells the space of a volume.
-ghost use Rattle.std.specs.Prelude.{ℕ, ◌<◌};
+ghost use Rattle.std.specs.Prelude.{ℕ, ◌<◌, None};
 ghost use Rattle.hm_types.specs.declared.limits.TheConstants.{GREATEST_ID};
 ghost use Rattle.hm_model.specs.declared.command.Command.TheVariants.{Df};
-ghost use Rattle.hm_calls.specs.declared.answered.Answered.TheVariants.{Replied};
 ghost use Rattle.hm_stored.specs.Space.{heap};
 ghost use Rattle.hm_stored.specs.Turn.{IsClosed};
 ghost use Rattle.hm_core.specs.Answer.{AnswersOver};
@@ -20,7 +19,7 @@ pub fn tell_space<D: Disk>(stored: &mut Stored<D>) -> Reply
     requires closed { IsClosed (heap stored.old.space) }
     ensures answers { (numbers boundary last : ℕ) → last < GREATEST_ID →
         AnswersOver numbers boundary (D.faults stored.old.space.disk) (D.faults stored.new.space.disk) last Df
-        (heap stored.old.space) (heap stored.new.space) stored.old.root stored.new.root (Replied result) }
+        (heap stored.old.space) (heap stored.new.space) stored.old.root stored.new.root result None }
     ensures crashes { LeavesNow (D.left_since stored.old.space.disk) (D.left_since stored.new.space.disk)
         (D.told stored.new.space.disk) }
 {

@@ -5,23 +5,22 @@ ghost use Rattle.hm_core.specs.Caused.{IsCausedWith};
 ghost use Rattle.hm_core.specs.Counts.{disk_counts};
 ghost use Rattle.hm_core.specs.Inside.{IsInOrder};
 ghost use Rattle.hm_core.specs.Numbers.{numbers_told};
-ghost use Rattle.hm_core.specs.Running.{open_prunes};
+ghost use Rattle.hm_core.specs.Running.{open_jobs};
 
 use crate::calls::failure;
 use crate::mounting::open_space;
 use crate::numbers::numbers_by;
+use crate::outcome::Outcome;
 use crate::placed::answer_placed;
 use crate::running::Running;
 use crate::served::is_sync;
 use crate::staged::Staged;
 use crate::step::Step;
 use crate::ticket::Ticket;
-use hm_calls::Answered;
 use hm_disk::Disk;
 use hm_flush::{Flusher, Stage};
 use hm_header::Header;
 use hm_model::{Command, Entry, Reply};
-use hm_prune::Prune;
 use hm_recover::{OpenFault, Opened, recover};
 use hm_stored::Stored;
 use hm_types::{FULL_GROUP_PAGES, Fault, GREATEST_ID, Id, NoMemory};
@@ -46,13 +45,13 @@ pub struct Core<D: Disk, I, O> {
     pub(crate) history: Vec<Entry>,
     // All numbers of pseudo file systems below this one are used, as the history tells.
     pub(crate) numbers: u32,
-    // The prunes that are open. The history has a place for the ending of each.
+    // The calls of housekeeping that are open. The history has a place for the ending of each.
     pub(crate) running: Vec<Running>,
     ghost placed: { length running.items ≤ vec_capacity history - vec_len history },
     ghost numbered: { numbers ≡ numbers_told history.items },
     ghost ordered: { ∥ IsInOrder flusher last.0 free (heap stored.space) history.items ∥₁ },
     ghost caused: { ∥ IsCausedWith first.0 (disk_counts start)
-        (disk_counts (D.faults stored.space.disk)) last.0 (open_prunes running.items) history.items ∥₁ },
+        (disk_counts (D.faults stored.space.disk)) last.0 (open_jobs running.items) history.items ∥₁ },
 }
 
 // How it is opened, and what its use ends with.
@@ -187,20 +186,26 @@ impl<D: Disk, I, O> Core<D, I, O> {
     ghost use Rattle.hm_core.specs.Core.{Follows, LeavesDevices, LeavesHeld, NeedsFlush, Steps};
     ghost use Rattle.hm_core.specs.Live.{CallKeepsLive};
     ghost use Rattle.hm_core.specs.Replied.{RepliesExactly};
-    ghost use Rattle.hm_core.specs.Seen.{devices, seen};
+    ghost use Rattle.hm_core.specs.Chosen.{BeginsIfOpened, KeepChoices};
+    ghost use Rattle.hm_core.specs.Seen.{choice_of, devices, seen};
     ghost use Rattle.hm_core.specs.Served.{IsAsked};
 
     /// Answers a call and enters it in the history, with the next id. Where no id is left, or the call
     /// must wait for a flush, it does nothing. The history must have room for two entries. `since` is
     /// the last id when the call began: a sync is answered once the boundary, which it tells, is no
-    /// earlier. The opening of a prune that is accepted leaves the prune open, and a place in the history
-    /// for its ending. Where memory for what it keeps is refused, the call is.
+    /// earlier. The opening of a prune or a reblock that is accepted leaves it open, and a place in the
+    /// history for its ending. Where memory for what it keeps is refused, the call is. A reblock begins with
+    /// each big-block of the pool to which no zone appends, and in which some bytes are live, but fewer than
+    /// its FILL in a hundred.
     pub fn call(&mut self, lane: u8, line: u32, since: Id, command: Command) -> Step
         requires room { 2 ≤ (seen self.old).spare }
         requires since { since.0 ≤ (seen self.old).last }
         requires asked { IsAsked command }
         ensures steps { Steps (seen self.old) (seen self.new) lane line since.0 command result }
         ensures replied { RepliesExactly (seen self.old) (seen self.new) command result }
+        ensures begins { BeginsIfOpened command (seen self.old).heap (λ opening. choice_of opening self.new) result }
+        ensures choices { KeepChoices (λ opening. choice_of opening self.old) (λ opening. choice_of opening self.new)
+            (seen self.old).running }
         ensures follows { Follows (D.left_since (devices self.old).disk) (D.left_since (devices self.new).disk)
             (seen self.old) (seen self.new) }
         ensures crashes { LeavesHeld (D.left_since (devices self.old).disk) (D.left_since (devices self.new).disk)
@@ -228,7 +233,7 @@ impl<D: Disk, I, O> Core<D, I, O> {
         let place = self.history.len();
         self.last = id;
         match answered {
-            Answered::Replied(reply) => {
+            Outcome::Replied(reply) => {
                 self.numbers = self.numbers.max(numbers_by(&command, &reply));
                 self.history.push_reserved(Entry {
                     id,
@@ -240,7 +245,7 @@ impl<D: Disk, I, O> Core<D, I, O> {
                 self.core_is_sound();
                 Step::Answered(place)
             }
-            Answered::Opened(led) => {
+            Outcome::Opened(work) => {
                 let reply = Reply::Done;
                 self.history.push_reserved(Entry {
                     id,
@@ -253,7 +258,7 @@ impl<D: Disk, I, O> Core<D, I, O> {
                     opening: id,
                     lane,
                     line,
-                    prune: Prune::new(led.pfs, led.kept),
+                    work,
                 });
                 self.core_is_sound();
                 Step::Opened(place, Ticket { opening: id })
@@ -277,7 +282,8 @@ impl<D: Disk, I, O> Core<D, I, O> {
     ghost use Rattle.hm_core.specs.Core.{Follows, GoesOnOverEach, KeepsStreams, LeavesHeld};
     ghost use Rattle.hm_core.specs.Finished.{IsCommittedOn};
     ghost use Rattle.hm_core.specs.Live.{StageKeepsLive};
-    ghost use Rattle.hm_core.specs.Seen.{devices, seen};
+    ghost use Rattle.hm_core.specs.Chosen.{KeepChoices};
+    ghost use Rattle.hm_core.specs.Seen.{choice_of, devices, seen};
     ghost use Rattle.hm_core.specs.Served.{IsAsked};
     ghost use Rattle.hm_core.specs.Staged.{EndsBy, IsFlushed, IsStaged, Settles, Stages, header_now};
 
@@ -289,6 +295,8 @@ impl<D: Disk, I, O> Core<D, I, O> {
         requires room { 2 ≤ (seen self.old).spare }
         requires asked { IsAsked command }
         ensures stages { Stages (seen self.old) (seen self.new) lane line command result }
+        ensures choices { KeepChoices (λ opening. choice_of opening self.old) (λ opening. choice_of opening self.new)
+            (seen self.old).running }
         ensures follows { Follows (D.left_since (devices self.old).disk) (D.left_since (devices self.new).disk)
             (seen self.old) (seen self.new) }
         ensures crashes { LeavesHeld (D.left_since (devices self.old).disk) (D.left_since (devices self.new).disk)
@@ -321,6 +329,8 @@ impl<D: Disk, I, O> Core<D, I, O> {
     /// made again next time: `Media` where the disk failed, and `NoMemory` as a group is frozen.
     pub fn end_stage(&mut self) -> Result<bool, Fault>
         ensures ends { EndsBy (seen self.old) (seen self.new) result }
+        ensures choices { KeepChoices (λ opening. choice_of opening self.old) (λ opening. choice_of opening self.new)
+            (seen self.old).running }
         ensures follows { Follows (D.left_since (devices self.old).disk) (D.left_since (devices self.new).disk)
             (seen self.old) (seen self.new) }
         ensures crashes { LeavesHeld (D.left_since (devices self.old).disk) (D.left_since (devices self.new).disk)
@@ -344,6 +354,7 @@ impl<D: Disk, I, O> Core<D, I, O> {
     // call for which it was made can be refused with one.
     pub(crate) fn make_stage(&mut self) -> Result<Stage, Fault>
         ensures stage { IsStaged (seen self.old) (seen self.new) result }
+        ensures running { self.new.running ≡ self.old.running }
         ensures follows { Follows (D.left_since (devices self.old).disk) (D.left_since (devices self.new).disk)
             (seen self.old) (seen self.new) }
         ensures uncounted { GoesOnOverEach (D.left_since (devices self.old).disk) (D.left_since (devices self.new).disk)

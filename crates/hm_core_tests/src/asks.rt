@@ -22,8 +22,6 @@ pub enum Ask {
     Cat(u32),
     // As of an id, its bytes in this block of 16,384.
     BlockAt(u8, u32, u8),
-    // The first nine of these.
-    FrontAt(u8, u32, u8),
     Stat(u32),
     Rm(u32),
     Ls,
@@ -91,14 +89,6 @@ impl Ask {
                     path,
                     offset: 16_384 * u64::from(block),
                     count: 16_384,
-                })
-            }
-            Ask::FrontAt(id, file, block) => {
-                let path = path(alloc, Some(id), file)?;
-                Ok(Command::Cat {
-                    path,
-                    offset: 16_384 * u64::from(block),
-                    count: 9,
                 })
             }
             Ask::Stat(file) => {

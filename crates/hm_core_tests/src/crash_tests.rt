@@ -1,16 +1,15 @@
 // Crashes within a flush, between whose stages calls go on, and within the recoveries that follow: each image is
 // mounted, and compared with a volume that ran the calls up to its boundary alone.
 use crate::asks::Ask;
-use crate::crashes::{Due, Volumes, mount_all};
-use crate::shown::{Look, Shown};
+use crate::crashes::{Mounts, Volumes, mount_between};
+use crate::shown::Shown;
 use crate::test_disk::TestDisk;
 use crate::volume::{
-    CALLS_OF_MOUNT, Volume, answered, answers, do_all, finished, has_free, made, mounted, stopped,
-    synced,
+    CALLS_OF_MOUNT, Volume, answered, answers, do_all, filled_to, finished, has_free, made,
+    mounted, stopped, synced,
 };
-use hm_disk::Disk;
 use hm_model::Reply;
-use hm_types::{BIGBLOCK_BYTES, Id, NoMemory};
+use hm_types::{Id, NoMemory};
 use std::alloc::Global;
 use std::process::Abort;
 use std::test::Fail;
@@ -47,11 +46,17 @@ const FROZEN: Id = Id(40);
 // Four pages changed, all of them live: the root, two leaves and one of layer 2.
 const STAGES: u32 = 17;
 
-// After so many of them the header is opened that names the log, and after so many half of the pages are placed, and
-// all of them.
+// After so many of them the old bytes of half the pages are in the log, before so many the header is opened that names
+// it, and after so many two pages are placed, and three, and all of them.
+const HALF_LOGGED: u32 = 2;
+
+const LOGGED: u32 = 4;
+
 const ARMED: u32 = 9;
 
-const HALF_PLACED: u32 = 11;
+const TWO_PLACED: u32 = 11;
+
+const THREE_PLACED: u32 = 12;
 
 const PLACED: u32 = 13;
 
@@ -90,23 +95,47 @@ const BETWEEN: [Between; 16] = [
     Between::Done(Ask::Truncate(3, 1)),
 ];
 
+// How many images there are at least in each part of the flush. After each change of the disk there is the one as it reads,
+// and for each unsettled write the two that lose and tear it. A file that is made writes two payloads, as one does that has
+// its first bytes or is cut within a block; a fill of two blocks two, and one more where the size changes; and a stage of
+// Undo, Arm, Place or Commit one range. UndoSync, PlaceSync and each of Arm and Commit settle all.
+//
+// From 10 unsettled writes to 15, to 20, and to 22.
+const BEGUN: u32 = 21 + 23 + 25 + 27 + 29 + 31;
+
+const WRITTEN: u32 = 31 + 33 + 35 + 37 + 39 + 41;
+
+const SETTLED: u32 = 41 + 43 + 45 + (1 + 3 + 5) + 7 + (1 + 3 + 5) + 7 + (1 + 3 + 5);
+
+// All are recovered where the header names the log that counts, and most before that is settled.
+const COUNTING: u32 = 5 + 7 + (1 + 3 + 5);
+
+const COUNTING_RECOVERED: u32 = 5 + (1 + 3 + 5);
+
+// From 2 to 9, to 12, and to 15.
+const PLACING: u32 = 5 + 7 + 9 + 11 + 13 + 15 + 17 + 19;
+
+const PLACING_NEXT: u32 = 19 + 21 + 23 + 25;
+
+const PLACING_LAST: u32 = 25 + 27 + 29 + 31;
+
+// All are recovered before the last stage, which writes after two payloads, and one at least where that write is lost.
+const COMMITTING: u32 = COMMITTING_BEFORE + 7 + 1;
+
+const COMMITTING_RECOVERED: u32 = COMMITTING_BEFORE + 1;
+
+const COMMITTING_BEFORE: u32 = 31 + 1 + 3 + (1 + 3) + 5 + (1 + 3 + 5);
+
 // The calls of the disk that fail: of each call that fails the second write of its bytes.
 const FAILS: [u64; 2] = [CALLS_OF_MOUNT + 383, CALLS_OF_MOUNT + 431];
 
-// Where the entries of layer 2 say how far the append big-blocks of zones 10 and 11 are filled: 13 and 14. To the
-// reserve of 131,072 bytes one lacks three blocks of 16,384 bytes, and the other 20,000 bytes.
-const FILLED: [(u64, u32); 2] = [
-    (2 * BIGBLOCK_BYTES + 16 * 13 + 4, 8_257_536 - 3 * 16_384),
-    (2 * BIGBLOCK_BYTES + 16 * 14 + 4, 8_257_536 - 20_000),
-];
+// How far the append big-blocks of zones 10 and 11 are filled. To the reserve of 131,072 bytes one lacks three blocks of
+// 16,384 bytes, and the other 20,000 bytes.
+const FILLED: [(u32, u32); 2] = [(13, 8_257_536 - 3 * 16_384), (14, 8_257_536 - 20_000)];
 
 // A new volume two of whose append big-blocks are nearly filled.
-fn nearly_filled(rt: &impl Abort, alloc: Global) -> Result<TestDisk, NoMemory> {
-    let mut disk = made(rt, alloc);
-    for (place, filled) in FILLED {
-        assert_eq!(rt; disk.write_at(place, &filled.to_le_bytes()), Ok(()));
-    }
-    disk.copy(alloc)
+pub fn nearly_filled(rt: &impl Abort, alloc: Global) -> Result<TestDisk, NoMemory> {
+    filled_to(rt, alloc, made(rt, alloc), &FILLED)
 }
 
 // A volume as it is to be committed first.
@@ -188,7 +217,7 @@ fn ends_as_alone(rt: &impl Abort, alloc: Global, new: &TestDisk) -> Result<(), N
     assert_eq!(rt; core.boundary(), FROZEN);
     let mut core = mounted(rt, alloc, finished(rt, core));
     assert_eq!(rt; core.last(), shown.last);
-    shown.is_of(rt, alloc, &mut core, Look::Whole)
+    shown.is_of(rt, alloc, &mut core)
 }
 
 // What a volume shows once its use was ended.
@@ -215,38 +244,56 @@ fn changes_of(
     Ok(stopped(rt, flushed(rt, alloc, new, stages)?).changes())
 }
 
-// Mounts what crashes may leave from the end of one of these stages to that of the other. How many images were
-// recovered.
-fn mount_between(
+// Mounts what crashes may leave from the end of one of these stages to that of the other: so many images at least.
+fn mount_stages(
     rt: &impl Abort,
     alloc: Global,
-    new: &TestDisk,
     from: u32,
     to: u32,
-) -> Result<u32, NoMemory> {
-    let volumes = volumes_alone(rt, alloc, new)?;
-    let disk = stopped(rt, flushed(rt, alloc, new, STAGES)?);
-    let first = changes_of(rt, alloc, new, from)?;
-    let last = changes_of(rt, alloc, new, to)?;
-    let mut recovered: u32 = 0;
-    for count in first..=last {
-        // Before the last two changes, the last stage was not begun.
-        let due = Due {
-            committed: count < disk.changes(),
-            frozen: disk.changes() < count.saturating_add(2),
-        };
-        recovered = recovered.saturating_add(mount_all(rt, alloc, &volumes, &disk, count, due)?);
-    }
-    Ok(recovered)
+    least: u32,
+) -> Result<Mounts, NoMemory> {
+    let new = nearly_filled(rt, alloc)?;
+    let volumes = volumes_alone(rt, alloc, &new)?;
+    let disk = stopped(rt, flushed(rt, alloc, &new, STAGES)?);
+    let first = changes_of(rt, alloc, &new, from)?;
+    let last = changes_of(rt, alloc, &new, to)?;
+    let mounts = mount_between(rt, alloc, &volumes, &disk, (first, last), disk.changes())?;
+    assert!(rt; least <= mounts.images, "{mounts:?}");
+    Ok(mounts)
+}
+
+#[test]
+fn a_flush_with_calls_between_its_stages_ends_as_alone(rt: HostRuntime) -> Result<(), Fail> {
+    let alloc = rt.alloc();
+    ends_as_alone(&rt, alloc, &nearly_filled(&rt, alloc)?)?;
+    Ok(())
+}
+
+#[test]
+fn a_crash_while_the_log_is_begun_leaves_the_old_volume(rt: HostRuntime) -> Result<(), Fail> {
+    let mounts = mount_stages(&rt, rt.alloc(), 0, HALF_LOGGED, BEGUN)?;
+    assert_eq!(rt; mounts.recovered, 0);
+    Ok(())
+}
+
+#[test]
+fn a_crash_while_the_log_is_written_leaves_the_old_volume(rt: HostRuntime) -> Result<(), Fail> {
+    let mounts = mount_stages(&rt, rt.alloc(), HALF_LOGGED, LOGGED, WRITTEN)?;
+    assert_eq!(rt; mounts.recovered, 0);
+    Ok(())
 }
 
 #[test]
 fn a_crash_before_the_log_counts_leaves_the_old_volume(rt: HostRuntime) -> Result<(), Fail> {
-    let alloc = rt.alloc();
-    let new = nearly_filled(&rt, alloc)?;
-    ends_as_alone(&rt, alloc, &new)?;
-    let recovered = mount_between(&rt, alloc, &new, 0, ARMED - 1)?;
-    assert_eq!(rt; recovered, 0);
+    let mounts = mount_stages(&rt, rt.alloc(), LOGGED, ARMED - 1, SETTLED)?;
+    assert_eq!(rt; mounts.recovered, 0);
+    Ok(())
+}
+
+#[test]
+fn a_crash_as_the_log_comes_to_count_leaves_the_old_volume(rt: HostRuntime) -> Result<(), Fail> {
+    let mounts = mount_stages(&rt, rt.alloc(), ARMED - 1, ARMED, COUNTING)?;
+    assert!(rt; COUNTING_RECOVERED <= mounts.recovered, "{mounts:?}");
     Ok(())
 }
 
@@ -254,29 +301,32 @@ fn a_crash_before_the_log_counts_leaves_the_old_volume(rt: HostRuntime) -> Resul
 fn a_crash_while_the_first_pages_are_placed_leaves_the_old_volume(
     rt: HostRuntime,
 ) -> Result<(), Fail> {
-    let alloc = rt.alloc();
-    let new = nearly_filled(&rt, alloc)?;
-    let recovered = mount_between(&rt, alloc, &new, ARMED - 1, HALF_PLACED)?;
-    assert!(rt; recovered > 50);
+    let mounts = mount_stages(&rt, rt.alloc(), ARMED, TWO_PLACED, PLACING)?;
+    assert_eq!(rt; mounts.recovered, mounts.images);
     Ok(())
 }
 
 #[test]
-fn a_crash_while_the_last_pages_are_placed_leaves_the_old_volume(
+fn a_crash_while_the_next_page_is_placed_leaves_the_old_volume(
     rt: HostRuntime,
 ) -> Result<(), Fail> {
-    let alloc = rt.alloc();
-    let new = nearly_filled(&rt, alloc)?;
-    let recovered = mount_between(&rt, alloc, &new, HALF_PLACED, PLACED)?;
-    assert!(rt; recovered > 50);
+    let mounts = mount_stages(&rt, rt.alloc(), TWO_PLACED, THREE_PLACED, PLACING_NEXT)?;
+    assert_eq!(rt; mounts.recovered, mounts.images);
+    Ok(())
+}
+
+#[test]
+fn a_crash_while_the_last_page_is_placed_leaves_the_old_volume(
+    rt: HostRuntime,
+) -> Result<(), Fail> {
+    let mounts = mount_stages(&rt, rt.alloc(), THREE_PLACED, PLACED, PLACING_LAST)?;
+    assert_eq!(rt; mounts.recovered, mounts.images);
     Ok(())
 }
 
 #[test]
 fn a_crash_while_the_header_changes_leaves_one_of_two_volumes(rt: HostRuntime) -> Result<(), Fail> {
-    let alloc = rt.alloc();
-    let new = nearly_filled(&rt, alloc)?;
-    let recovered = mount_between(&rt, alloc, &new, PLACED, STAGES)?;
-    assert!(rt; recovered > 20);
+    let mounts = mount_stages(&rt, rt.alloc(), PLACED, STAGES, COMMITTING)?;
+    assert!(rt; COMMITTING_RECOVERED <= mounts.recovered, "{mounts:?}");
     Ok(())
 }

@@ -1,5 +1,5 @@
 // Images of crashes, of which each is mounted, and what it recovers to compared with what it may be.
-use crate::shown::{Look, Shown};
+use crate::shown::Shown;
 use crate::test_disk::TestDisk;
 use crate::volume::{mounted, stopped};
 use hm_disk_forms::Crash;
@@ -9,9 +9,9 @@ use std::process::Abort;
 
 // Which of two volumes an image may recover to.
 #[derive(Clone, Copy, Debug)]
-pub struct Due {
-    pub committed: bool,
-    pub frozen: bool,
+struct Due {
+    committed: bool,
+    frozen: bool,
 }
 
 // What the volumes show that ran the calls up to the committed and up to the frozen boundary alone.
@@ -29,7 +29,6 @@ impl Volumes {
         alloc: Global,
         image: TestDisk,
         due: Due,
-        look: Look,
     ) -> Result<(TestDisk, Due), NoMemory> {
         let mut core = mounted(rt, alloc, image);
         let is_frozen = core.last() == self.frozen.last;
@@ -40,7 +39,7 @@ impl Volumes {
             &self.committed
         };
         assert_eq!(rt; (core.last(), core.boundary()), (shown.last, shown.last));
-        shown.is_of(rt, alloc, &mut core, look)?;
+        shown.is_of(rt, alloc, &mut core)?;
         let is = Due {
             committed: !is_frozen,
             frozen: is_frozen,
@@ -52,12 +51,10 @@ impl Volumes {
 // How much is put of a write that is torn.
 const FRONTS: [usize; 4] = [1, 16, 2_048, 4_095];
 
-// In how many ways a crash after so many changes of a disk is tried. It loses nothing, or it loses or tears one
-// unsettled write, by turns, and where a sync is next both.
+// In how many ways a crash after so many changes of a disk is tried: it loses nothing, or it loses or tears one
+// unsettled write.
 fn ways(disk: &TestDisk, count: usize) -> usize {
-    let unsettled = disk.unsettled(count);
-    let turns = if is_before_sync(disk, count) { 2 } else { 1 };
-    unsettled.saturating_mul(turns).saturating_add(1)
+    disk.unsettled(count).saturating_mul(2).saturating_add(1)
 }
 
 fn is_before_sync(disk: &TestDisk, count: usize) -> bool {
@@ -74,38 +71,38 @@ fn image_of(
     if way == 0 {
         return disk.crashed(alloc, count, Crash::Lost(&[]));
     }
-    let number = way - 1;
-    let unsettled = disk.unsettled(count);
-    let (write, is_second) = if number < unsettled {
-        (number, false)
-    } else {
-        (number - unsettled, true)
-    };
-    let is_lost = (write % 2 == count % 2) != is_second;
-    if is_lost {
+    let write = (way - 1) / 2;
+    if way % 2 == 1 {
         return disk.crashed(alloc, count, Crash::Lost(&[write]));
     }
     let front = FRONTS[write % 4];
     disk.crashed(alloc, count, Crash::Torn { write, front })
 }
 
-// Mounts what a crash after so many changes of a disk may leave, and what crashes within the recoveries may. How many
-// of the images were recovered.
-pub fn mount_all(
+// How many images were mounted, and how many of them recovered: the disk was changed by it.
+#[derive(Clone, Copy, Debug)]
+pub struct Mounts {
+    pub images: u32,
+    pub recovered: u32,
+}
+
+// Mounts what a crash after so many changes of a disk may leave, and what crashes within the recoveries may.
+fn mount_all(
     rt: &impl Abort,
     alloc: Global,
     volumes: &Volumes,
     disk: &TestDisk,
     count: usize,
     due: Due,
-) -> Result<u32, NoMemory> {
-    let mut recovered: u32 = 0;
+    mounts: &mut Mounts,
+) -> Result<(), NoMemory> {
     for way in 0..ways(disk, count) {
         let image = image_of(alloc, disk, count, way)?;
         let first = image.changes();
-        let (next, is) = volumes.check(rt, alloc, image, due, Look::Whole)?;
+        let (next, is) = volumes.check(rt, alloc, image, due)?;
+        mounts.images = mounts.images.saturating_add(1);
         if first < next.changes() {
-            recovered = recovered.saturating_add(1);
+            mounts.recovered = mounts.recovered.saturating_add(1);
         }
         let cuts = match way {
             0 if is_before_sync(disk, count) => Cuts::EachTwice,
@@ -114,7 +111,33 @@ pub fn mount_all(
         };
         mount_within(rt, alloc, volumes, &next, first, is, cuts)?;
     }
-    Ok(recovered)
+    Ok(())
+}
+
+// Mounts what crashes may leave after each number of changes of a disk from one to another, within a flush that has
+// ended after so many.
+pub fn mount_between(
+    rt: &impl Abort,
+    alloc: Global,
+    volumes: &Volumes,
+    disk: &TestDisk,
+    changes: (usize, usize),
+    end: usize,
+) -> Result<Mounts, NoMemory> {
+    let (first, last) = changes;
+    let mut mounts = Mounts {
+        images: 0,
+        recovered: 0,
+    };
+    for count in first..=last {
+        // Before its last two changes, the last stage was not begun.
+        let due = Due {
+            committed: count < end,
+            frozen: end < count.saturating_add(2),
+        };
+        mount_all(rt, alloc, volumes, disk, count, due, &mut mounts)?;
+    }
+    Ok(mounts)
 }
 
 // At which of its changes a recovery is cut off.
@@ -147,7 +170,7 @@ fn mount_within(
         for way in 0..most {
             let image = image_of(alloc, disk, count, way)?;
             let first = image.changes();
-            let (next, _) = volumes.check(rt, alloc, image, due, Look::Short)?;
+            let (next, _) = volumes.check(rt, alloc, image, due)?;
             if way == 0 && matches!(cuts, Cuts::EachTwice) {
                 mount_again(rt, alloc, volumes, &next, first, due)?;
             }
@@ -167,7 +190,7 @@ fn mount_again(
 ) -> Result<(), NoMemory> {
     for count in first..disk.changes() {
         let image = image_of(alloc, disk, count, 0)?;
-        volumes.check(rt, alloc, image, due, Look::Short)?;
+        volumes.check(rt, alloc, image, due)?;
     }
     Ok(())
 }

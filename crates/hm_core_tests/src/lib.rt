@@ -7,17 +7,39 @@
 #[cfg(test)]
 mod asks;
 #[cfg(test)]
+mod between;
+#[cfg(test)]
 mod crash_tests;
 #[cfg(test)]
 mod crashes;
 #[cfg(test)]
+mod elements;
+#[cfg(test)]
 mod flush_tests;
+#[cfg(test)]
+mod lines;
 #[cfg(test)]
 mod many_tests;
 #[cfg(test)]
 mod memory_tests;
 #[cfg(test)]
 mod page_tests;
+#[cfg(test)]
+mod prune_crash_tests;
+#[cfg(test)]
+mod prune_end_tests;
+#[cfg(test)]
+mod prune_tests;
+#[cfg(test)]
+mod reblock_crash_tests;
+#[cfg(test)]
+mod reblock_end_tests;
+#[cfg(test)]
+mod reblock_tests;
+#[cfg(test)]
+mod run;
+#[cfg(test)]
+mod shared_tests;
 #[cfg(test)]
 mod shown;
 #[cfg(test)]

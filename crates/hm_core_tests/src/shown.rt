@@ -22,13 +22,6 @@ const BLOCKS: [(u32, u8); 9] = [
     (6, 0),
 ];
 
-// How much of a volume is looked at: all that it retains, or its names now and the beginnings of two files.
-#[derive(Clone, Copy)]
-pub enum Look {
-    Whole,
-    Short,
-}
-
 // Looks at a volume, each with its reply.
 #[derive(Drop)]
 pub struct Shown {
@@ -50,33 +43,16 @@ impl Shown {
         Ok(Shown { last, looks })
     }
 
-    // Another volume shows the same, as far as it is looked at.
-    pub fn is_of(
-        &self,
-        rt: &impl Abort,
-        alloc: Global,
-        core: &mut Volume,
-        look: Look,
-    ) -> Result<(), NoMemory> {
+    // Another volume shows the same.
+    pub fn is_of(&self, rt: &impl Abort, alloc: Global, core: &mut Volume) -> Result<(), NoMemory> {
         for (ask, want) in &self.looks {
-            if is_looked_at(look, *ask, self.last) {
-                assert!(rt; answers(rt, alloc, core, *ask, want)?, "{ask:?}");
-            }
+            assert!(rt; answers(rt, alloc, core, *ask, want)?, "{ask:?}");
         }
         Ok(())
     }
 }
 
-fn is_looked_at(look: Look, ask: Ask, last: Id) -> bool {
-    match (look, ask) {
-        (Look::Whole, _) | (Look::Short, Ask::Ls) => true,
-        (Look::Short, Ask::FrontAt(id, 0 | 3, 0)) => u64::from(id) == last.0,
-        (Look::Short, _) => false,
-    }
-}
-
-// The names, and the front of each block, as of each id up to the last; whole blocks as of each eighth of these; and
-// what tells of the files as of now.
+// The names, and each block, as of each id up to the last; and what tells of the files as of now.
 fn asks_of(alloc: Global, last: u8) -> Result<Vec<Ask>, NoMemory> {
     let mut asks = Vec::new(alloc);
     asks.push(Ask::Ls)?;
@@ -92,10 +68,7 @@ fn asks_of(alloc: Global, last: u8) -> Result<Vec<Ask>, NoMemory> {
 fn push_asks_at(asks: &mut Vec<Ask>, id: u8) -> Result<(), NoMemory> {
     asks.push(Ask::LsAt(id))?;
     for (file, block) in BLOCKS {
-        asks.push(Ask::FrontAt(id, file, block))?;
-        if id % 8 == 0 {
-            asks.push(Ask::BlockAt(id, file, block))?;
-        }
+        asks.push(Ask::BlockAt(id, file, block))?;
     }
     Ok(())
 }
@@ -130,6 +103,7 @@ fn copy_of(rt: &impl Abort, reply: &Reply) -> Result<Reply, NoMemory> {
             links: *links,
         }),
         Reply::NotFound => Ok(Reply::NotFound),
+        Reply::NotRetained => Ok(Reply::NotRetained),
         Reply::IsDir => Ok(Reply::IsDir),
         _ => panic!(rt; "{reply:?}"),
     }

@@ -49,6 +49,11 @@ impl TestDisk {
         }
     }
 
+    // How many of its calls were counted.
+    pub fn calls(&self) -> u64 {
+        self.calls
+    }
+
     // How many writes and syncs are recorded.
     pub fn changes(&self) -> usize {
         self.disk.changes()

@@ -1,5 +1,7 @@
 // Volumes of 24 big-blocks in use on disks in memory, and what their disks hold.
 ghost use Rattle.std.specs.Prelude.{◌≤◌};
+ghost use Rattle.hm_core.specs.Seen.{seen};
+ghost use Rattle.hm_core_tests.specs.Tests.{KeepsOpen};
 
 use crate::asks::Ask;
 use crate::test_disk::TestDisk;
@@ -45,6 +47,21 @@ pub fn made(rt: &impl Abort, alloc: Global) -> TestDisk {
     let mut disk = TestDisk::new(alloc, Vec::new(alloc));
     assert_eq!(rt; newfs(&mut disk, 24), Ok(()));
     disk
+}
+
+// A disk on which the entries of layer 2 say that these big-blocks are filled so far, each of them no less than it is.
+pub fn filled_to(
+    rt: &impl Abort,
+    alloc: Global,
+    disk: TestDisk,
+    rows: &[(u32, u32)],
+) -> Result<TestDisk, NoMemory> {
+    let mut disk = disk;
+    for (block, filled) in rows {
+        let place = 2 * BIGBLOCK_BYTES + 16 * u64::from(*block) + 4;
+        assert_eq!(rt; disk.write_at(place, &filled.to_le_bytes()), Ok(()));
+    }
+    disk.copy(alloc)
 }
 
 pub fn mounted(rt: &impl Abort, alloc: Global, disk: TestDisk) -> Volume {
@@ -147,7 +164,9 @@ pub fn stage_for(
     core: &mut Volume,
     ask: Ask,
     want: &Reply,
-) -> Result<Came, NoMemory> {
+) -> Result<Came, NoMemory>
+    ensures { KeepsOpen (seen core.old) (seen core.new) }
+{
     core.reserve(2)?;
     match core.flush_stage(3, 7, ask.command(alloc)?) {
         Staged::More(back) => {
@@ -160,7 +179,7 @@ pub fn stage_for(
 }
 
 // The earlier of an id and the last one.
-fn up_to(id: Id, last: Id) -> Id
+pub fn up_to(id: Id, last: Id) -> Id
     ensures { result.0 ≤ last.0 }
 {
     if last.0 < id.0 { last } else { id }
@@ -174,12 +193,14 @@ pub fn try_since(
     since: Id,
     ask: Ask,
     want: &Reply,
-) -> Result<Came, NoMemory> {
+) -> Result<Came, NoMemory>
+    ensures { KeepsOpen (seen core.old) (seen core.new) }
+{
     core.reserve(2)?;
     let since = up_to(since, core.last());
     match core.call(3, 7, since, ask.command(alloc)?) {
         Step::Answered(place) => outcome_of(rt, alloc, core.entry(place), ask, want),
-        Step::Opened(..) => panic!(rt; "opened: {ask:?}"),
+        Step::Opened(place, _) => outcome_of(rt, alloc, core.entry(place), ask, want),
         Step::MustFlush(back) => {
             assert!(rt; back == ask.command(alloc)?);
             stage_for(rt, alloc, core, ask, want)

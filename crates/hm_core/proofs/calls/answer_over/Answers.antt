@@ -1,14 +1,18 @@
 -- A call is answered, and kept or dropped.
 use Rattle.std.proofs.Common.{inr, refl, sym, ap, subst}
-use Rattle.std.specs.Prelude.{IfErr}
+use Rattle.std.specs.Prelude.{IfErr, Option}
 use Rattle.hm_types.specs.Faults.{IsCaused}
 use Rattle.hm_types.specs.declared.fault.Fault.TheVariants.{NoMemory as no_memory}
+use Rattle.hm_model.specs.declared.reply.Reply.{Reply}
 use Rattle.hm_model.specs.declared.reply.Reply.TheVariants.{NoMemory as no_memory_reply}
 use Rattle.hm_pages.specs.Store.{contents}
 use Rattle.hm_stored.specs.Heap.{heap_of}
+use Rattle.hm_core.specs.Answer.{AnswersOver}
+use Rattle.hm_core.specs.State.{OpenWork}
 use Rattle.hm_core.specs.Told.{TellsFailure}
 use Rattle.hm_core.proofs.AnswerLemmas.{caused_over, dropped_answers, fault_told, kept_answers}
 use Rattle.hm_core.proofs.CrashLemmas.{leaves_around}
+use Rattle.hm_core.proofs.OutcomeLemmas.{no_choice}
 use Rattle.hm_core.proofs.TurnLemmas.{balanced_begun, begun_some, known_begun}
 use Rattle.hm_core.proofs.calls.answer_over.Goals as goal
 
@@ -73,7 +77,12 @@ returns-in-Ok g c =
     let s2 = c.answer_next.new.store in
     let s3 = c.keep.new.self in
     record {
-      answers = kept_answers (λ s. heap_of (contents s.space.pages.store) (g.D.Disk.told s.space.disk) s.space.books) (λ s. s.root)
+      answers = λ boundary.
+          subst (λ (x : Reply × Option OpenWork). AnswersOver c.args.numbers boundary (g.D.Disk.faults s.space.disk) (g.D.Disk.faults s3.space.disk)
+          c.args.last.0 c.args.command.now (heap_of (contents s.space.pages.store) (g.D.Disk.told s.space.disk) s.space.books)
+          (heap_of (contents s3.space.pages.store) (g.D.Disk.told s3.space.disk) s3.space.books) s.root s3.root x.0 x.1)
+          (λ i. (sym c.outcome_of.ensures.reply i, sym c.outcome_of.ensures.work i))
+          (kept_answers (λ s. heap_of (contents s.space.pages.store) (g.D.Disk.told s.space.disk) s.space.books) (λ s. s.root)
           (heap_of (contents s.space.pages.store) (g.D.Disk.told s.space.disk) s.space.books) s.root c.args.last.0 s1 s2
           (heap_of (contents s3.space.pages.store) (g.D.Disk.told s3.space.disk) s3.space.books) s3.root c.args.command.now c.args.numbers
           (g.D.Disk.faults s.space.disk) (g.D.Disk.faults s3.space.disk) c.requires.closed s.space.kept c.begin.ensures.turn c.begin.ensures.root
@@ -81,9 +90,12 @@ returns-in-Ok g c =
           (caused_over _ _ _ _ (g.D.Disk.faults s.space.disk) (g.D.Disk.faults s3.space.disk) c.answer_next.result
           (ap g.D.Disk.faults c.begin.ensures.disk) (ap g.D.Disk.faults c.keep.ensures.disk) c.answer_next.ensures.cause)
           (c.can_keep.ensures.0 c.if-can_keep.true).whole c.keep.ensures.turn c.keep.ensures.content c.keep.ensures.root c.pages_are_bytes.ensures s2.tree
-          c.in-Ok.answered c.in-Ok.ensures.step c.in-Ok.ensures.charges c.in-Ok.ensures.possible c.in-Ok.ensures.due c.in-Ok.ensures.form;
+          c.in-Ok.answered c.in-Ok.ensures.step c.in-Ok.ensures.charges c.in-Ok.ensures.possible c.in-Ok.ensures.due c.in-Ok.ensures.form
+          boundary);
       crashes = leaves_around g.D.Disk.left_since g.D.Disk.told s.space.disk s1.space.disk s2.space.disk s3.space.disk c.begin.ensures.disk
           c.keep.ensures.disk (c.what_a_crash_leaves_over_calls.ensures s1 s2 c.answer_next.ensures.borrowed.1);
+      begins = no_choice c.args.command.now (heap_of (contents s.space.pages.store) (g.D.Disk.told s.space.disk) s.space.books) c.outcome_of.result
+          c.requires.served.0;
     }
 
 pub returns-in-Ok-2 : goal.returns-in-Ok-2
@@ -104,6 +116,7 @@ returns-in-Ok-2 g c =
           no_memory_reply c.undo.ensures.turn c.undo.ensures.root c.undo.ensures.held (λ volume holds. inr refl) no_memory refl tt;
       crashes = leaves_around g.D.Disk.left_since g.D.Disk.told s.space.disk s1.space.disk s2.space.disk s3.space.disk c.begin.ensures.disk
           c.undo.ensures.disk (c.what_a_crash_leaves_over_calls.ensures s1 s2 c.answer_next.ensures.borrowed.1);
+      begins = tt;
     }
 
 pub returns-in-Err : goal.returns-in-Err
@@ -135,4 +148,5 @@ returns-in-Err g c =
           (subst (λ r. IfErr r (IsCaused (g.D.Disk.faults s.space.disk) (g.D.Disk.faults s3.space.disk))) c.in-Err.is cause.counted.caused);
       crashes = leaves_around g.D.Disk.left_since g.D.Disk.told s.space.disk s1.space.disk s2.space.disk s3.space.disk c.begin.ensures.disk
           c.undo-in-Err.ensures.disk (c.what_a_crash_leaves_over_calls.ensures s1 s2 c.answer_next.ensures.borrowed.1);
+      begins = tt;
     }

@@ -6,4 +6,4 @@ pub returns-clause-begins : goal.returns-clause-begins
 returns-clause-begins c = paid_first
 
 pub returns-clause-leaves : goal.returns-clause-leaves
-returns-clause-leaves c = floor_paid
+returns-clause-leaves c = λ first spare history room most paid. floor_paid first spare history room most (λ none. paid)

@@ -1,9 +1,8 @@
 -- The space is told.
-use Rattle.std.proofs.Common.{ap, subst, sym, ℕ, ◌∙◌, ◌-◌}
+use Rattle.std.proofs.Common.{None, ap, inl, refl, subst, sym, ℕ, ◌∙◌, ◌-◌}
 use Rattle.hm_types.specs.Layout.{first_pool}
 use Rattle.hm_model.specs.declared.command.Command.TheVariants.{Df}
 use Rattle.hm_model.specs.declared.reply.Reply.{Reply}
-use Rattle.hm_calls.specs.declared.answered.Answered.TheVariants.{Replied}
 use Rattle.hm_pages.specs.Store.{contents}
 use Rattle.hm_stored.specs.Heap.{heap_of}
 use Rattle.hm_stored.specs.declared.books.Books.{Books}
@@ -38,10 +37,11 @@ returns-in-Err g c =
     let h' = heap_of (contents t.space.pages.store) (g.D.Disk.told t.space.disk) t.space.books in
     record {
       answers = λ numbers boundary last left.
-          subst (λ (r : Reply). AnswersOver numbers boundary (g.D.Disk.faults s.space.disk) (g.D.Disk.faults t.space.disk) last Df h h' s.root t.root (Replied r))
+          subst (λ (r : Reply). AnswersOver numbers boundary (g.D.Disk.faults s.space.disk) (g.D.Disk.faults t.space.disk) last Df h h' s.root t.root r None)
           (sym c.failure.ensures)
           (failed_answers h h' s.root t.root (g.D.Disk.faults s.space.disk) (g.D.Disk.faults t.space.disk) c.requires.closed
-          c.free_blocks.ensures.same c.free_blocks.ensures.rest.0 (ap g.D.Disk.faults c.free_blocks.ensures.rest.1) last left numbers boundary c.in-Err.fault
+          c.free_blocks.ensures.same c.free_blocks.ensures.rest.0 (ap g.D.Disk.faults c.free_blocks.ensures.rest.1) last left numbers boundary Df (inl refl)
+          c.in-Err.fault
           c.in-Err.ensures.cause c.in-Err.ensures.no_media);
       crashes = leaves_same g.D.Disk.left_since g.D.Disk.told s.space.disk t.space.disk c.free_blocks.ensures.rest.1;
     }

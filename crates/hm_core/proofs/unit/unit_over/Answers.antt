@@ -3,11 +3,14 @@ use Rattle.std.proofs.Common.{refl, ap, subst}
 use Rattle.std.specs.Prelude.{IfErr}
 use Rattle.hm_types.specs.Faults.{IsCaused, IsUndamaged}
 use Rattle.hm_pages.specs.Store.{contents}
+use Rattle.hm_key.specs.Sweep.{place_from}
 use Rattle.hm_prune.specs.Dead.{keeps_in}
 use Rattle.hm_stored.specs.Heap.{heap_of}
 use Rattle.hm_core.proofs.CrashLemmas.{leaves_around}
 use Rattle.hm_core.proofs.TurnLemmas.{balanced_begun, begun_some}
-use Rattle.hm_core.proofs.UnitLemmas.{dropped_unit, kept_ends, kept_unit, none_dead_for, progress_done, same_kept, store_caused, unit_undamaged}
+use Rattle.hm_core.proofs.UnitLemmas.{dropped_pays, dropped_unit, gets_on, kept_ends, kept_pays, kept_unit}
+use Rattle.hm_core.proofs.UnitLemmas.{none_dead_for, progress_done, same_kept, store_caused}
+use Rattle.hm_core.proofs.UnitLemmas.{told_so}
 use Rattle.hm_core.proofs.unit.unit_over.Goals as goal
 
 pub unit-requires : goal.unit-requires
@@ -77,8 +80,14 @@ returns-in-Ok g c =
           (heap_of (contents s3.space.pages.store) (g.D.Disk.told s3.space.disk) s3.space.books) s.root s1.root s2.root s3.root c.args.last.0
           (g.D.Disk.faults s.space.disk) (g.D.Disk.faults s3.space.disk) c.requires.closed s.space.kept c.begin.ensures.turn c.begin.ensures.root
           (ap (λ f. f.0) c.unit.ensures.frame) cause.counted.never_falls (c.can_keep.ensures.0 c.if-can_keep.true).whole c.keep.ensures.turn
-          c.keep.ensures.content c.keep.ensures.root c.pages_are_bytes.ensures s2.tree c.in-Ok.ensures.store.content c.unit.ensures.store.free
-          (c.unit.ensures.store.room refl);
+          c.keep.ensures.content c.keep.ensures.root c.pages_are_bytes.ensures s2.tree c.in-Ok.ensures.store.content;
+      paid = kept_pays (keeps_in j.pfs.0 j.kept) (heap_of (contents s.space.pages.store) (g.D.Disk.told s.space.disk) s.space.books)
+          (heap_of (contents s1.space.pages.store) (g.D.Disk.told s1.space.disk) s1.space.books)
+          (heap_of (contents s2.space.pages.store) (g.D.Disk.told s2.space.disk) s2.space.books)
+          (heap_of (contents s3.space.pages.store) (g.D.Disk.told s3.space.disk) s3.space.books) s.root s1.root s2.root s3.root c.args.last.0
+          (g.D.Disk.faults s.space.disk) (g.D.Disk.faults s3.space.disk) c.requires.closed s.space.kept c.begin.ensures.turn c.begin.ensures.root
+          (ap (λ f. f.0) c.unit.ensures.frame) cause.counted.never_falls (c.can_keep.ensures.0 c.if-can_keep.true).whole c.keep.ensures.turn
+          c.unit.ensures.store.free (c.unit.ensures.store.room refl);
       prune = same;
       done = λ is. kept_ends (keeps_in j.pfs.0 j.kept) (heap_of (contents s.space.pages.store) (g.D.Disk.told s.space.disk) s.space.books)
           (heap_of (contents s1.space.pages.store) (g.D.Disk.told s1.space.disk) s1.space.books)
@@ -86,9 +95,16 @@ returns-in-Ok g c =
           (heap_of (contents s3.space.pages.store) (g.D.Disk.told s3.space.disk) s3.space.books) s.root s1.root s2.root s3.root c.args.last.0
           (g.D.Disk.faults s.space.disk) (g.D.Disk.faults s3.space.disk) c.requires.closed s.space.kept c.begin.ensures.turn c.begin.ensures.root
           (ap (λ f. f.0) c.unit.ensures.frame) cause.counted.never_falls (c.can_keep.ensures.0 c.if-can_keep.true).whole c.keep.ensures.turn
-          c.keep.ensures.content c.keep.ensures.root c.pages_are_bytes.ensures s2.tree c.in-Ok.ensures.store.content c.unit.ensures.store.free
-          (c.unit.ensures.store.room refl) j.pfs.0 j.kept
+          c.keep.ensures.content c.keep.ensures.root c.pages_are_bytes.ensures s2.tree c.in-Ok.ensures.store.content j.pfs.0 j.kept
           (none_dead_for j.pfs.0 j'.pfs.0 j.kept j'.kept same _ (progress_done _ _ _ is c.in-Ok.ensures.progress).1);
+      more = gets_on (keeps_in j.pfs.0 j.kept) (heap_of (contents s.space.pages.store) (g.D.Disk.told s.space.disk) s.space.books)
+          (heap_of (contents s1.space.pages.store) (g.D.Disk.told s1.space.disk) s1.space.books)
+          (heap_of (contents s2.space.pages.store) (g.D.Disk.told s2.space.disk) s2.space.books)
+          (heap_of (contents s3.space.pages.store) (g.D.Disk.told s3.space.disk) s3.space.books) s.root s1.root s2.root s3.root c.args.last.0
+          (g.D.Disk.faults s.space.disk) (g.D.Disk.faults s3.space.disk) c.requires.closed s.space.kept c.begin.ensures.turn c.begin.ensures.root
+          (ap (λ f. f.0) c.unit.ensures.frame) cause.counted.never_falls (c.can_keep.ensures.0 c.if-can_keep.true).whole c.keep.ensures.turn
+          c.keep.ensures.content c.keep.ensures.root c.pages_are_bytes.ensures s2.tree c.in-Ok.ensures.store.content (place_from j.from)
+          (place_from j'.from) c.in-Ok.progress c.in-Ok.ensures.more;
       crashes = leaves_around g.D.Disk.left_since g.D.Disk.told s.space.disk s1.space.disk s2.space.disk s3.space.disk c.begin.ensures.disk
           c.keep.ensures.disk (c.what_a_crash_leaves_over_calls.ensures s1 s2 c.unit.ensures.frame);
       cause = tt;
@@ -113,8 +129,15 @@ returns-in-Ok-2 g c =
           (heap_of (contents s3.space.pages.store) (g.D.Disk.told s3.space.disk) s3.space.books) s.root s1.root s2.root s3.root c.args.last.0
           (g.D.Disk.faults s.space.disk) (g.D.Disk.faults s3.space.disk) c.requires.closed s.space.kept c.begin.ensures.turn c.begin.ensures.root
           (ap (λ f. f.0) c.unit.ensures.frame) cause.counted.never_falls c.undo.ensures.turn c.undo.ensures.root c.undo.ensures.held;
+      paid = dropped_pays (keeps_in j.pfs.0 j.kept) (heap_of (contents s.space.pages.store) (g.D.Disk.told s.space.disk) s.space.books)
+          (heap_of (contents s1.space.pages.store) (g.D.Disk.told s1.space.disk) s1.space.books)
+          (heap_of (contents s2.space.pages.store) (g.D.Disk.told s2.space.disk) s2.space.books)
+          (heap_of (contents s3.space.pages.store) (g.D.Disk.told s3.space.disk) s3.space.books) s.root s1.root s2.root s3.root c.args.last.0
+          (g.D.Disk.faults s.space.disk) (g.D.Disk.faults s3.space.disk) c.requires.closed s.space.kept c.begin.ensures.turn c.begin.ensures.root
+          (ap (λ f. f.0) c.unit.ensures.frame) cause.counted.never_falls c.undo.ensures.turn;
       prune = same_kept _ _ _ _ c.unit.ensures.job.kept;
       done = tt;
+      more = tt;
       crashes = leaves_around g.D.Disk.left_since g.D.Disk.told s.space.disk s1.space.disk s2.space.disk s3.space.disk c.begin.ensures.disk
           c.undo.ensures.disk (c.what_a_crash_leaves_over_calls.ensures s1 s2 c.unit.ensures.frame);
       cause = tt;
@@ -140,17 +163,24 @@ returns-in-Err g c =
           (g.D.Disk.faults s.space.disk) (g.D.Disk.faults s3.space.disk) c.requires.closed s.space.kept c.begin.ensures.turn c.begin.ensures.root
           (ap (λ f. f.0) c.unit.ensures.frame) cause.counted.never_falls c.undo-in-Err.ensures.turn c.undo-in-Err.ensures.root
           c.undo-in-Err.ensures.held;
+      paid = dropped_pays (keeps_in j.pfs.0 j.kept) (heap_of (contents s.space.pages.store) (g.D.Disk.told s.space.disk) s.space.books)
+          (heap_of (contents s1.space.pages.store) (g.D.Disk.told s1.space.disk) s1.space.books)
+          (heap_of (contents s2.space.pages.store) (g.D.Disk.told s2.space.disk) s2.space.books)
+          (heap_of (contents s3.space.pages.store) (g.D.Disk.told s3.space.disk) s3.space.books) s.root s1.root s2.root s3.root c.args.last.0
+          (g.D.Disk.faults s.space.disk) (g.D.Disk.faults s3.space.disk) c.requires.closed s.space.kept c.begin.ensures.turn c.begin.ensures.root
+          (ap (λ f. f.0) c.unit.ensures.frame) cause.counted.never_falls c.undo-in-Err.ensures.turn;
       prune = same_kept _ _ _ _ c.unit.ensures.job.kept;
       done = tt;
+      more = tt;
       crashes = leaves_around g.D.Disk.left_since g.D.Disk.told s.space.disk s1.space.disk s2.space.disk s3.space.disk c.begin.ensures.disk
           c.undo-in-Err.ensures.disk (c.what_a_crash_leaves_over_calls.ensures s1 s2 c.unit.ensures.frame);
       cause = subst (λ r. IfErr r (IsCaused (g.D.Disk.faults s.space.disk) (g.D.Disk.faults s3.space.disk))) c.in-Err.is cause.counted.caused;
       undamaged = λ volume holds.
           subst (λ r. IfErr r IsUndamaged) c.in-Err.is
-          (unit_undamaged (keeps_in j.pfs.0 j.kept) (heap_of (contents s.space.pages.store) (g.D.Disk.told s.space.disk) s.space.books)
+          (told_so (keeps_in j.pfs.0 j.kept) (heap_of (contents s.space.pages.store) (g.D.Disk.told s.space.disk) s.space.books)
           (heap_of (contents s1.space.pages.store) (g.D.Disk.told s1.space.disk) s1.space.books)
           (heap_of (contents s2.space.pages.store) (g.D.Disk.told s2.space.disk) s2.space.books)
           (heap_of (contents s3.space.pages.store) (g.D.Disk.told s3.space.disk) s3.space.books) s.root s1.root s2.root s3.root c.args.last.0
           (g.D.Disk.faults s.space.disk) (g.D.Disk.faults s3.space.disk) c.requires.closed s.space.kept c.begin.ensures.turn c.begin.ensures.root
-          (ap (λ f. f.0) c.unit.ensures.frame) cause.counted.never_falls c.unit.result cause volume holds);
+          (ap (λ f. f.0) c.unit.ensures.frame) cause.counted.never_falls (IfErr c.unit.result IsUndamaged) cause.undamaged volume holds);
     }

@@ -2,6 +2,7 @@
 use Rattle.std.proofs.Common.{rules, ◌≡◌, ◌+◌, List, ap, arith, length, refl, subst, sym}
 use Rattle.hm_model.specs.declared.entry.Entry.{Entry}
 use Rattle.hm_core.specs.Numbers.{numbers_told}
+use Rattle.hm_core.specs.Running.{choice_among}
 use Rattle.hm_core.specs.Seen.{seen}
 use Rattle.hm_core.proofs.NumberLemmas.{fault_tells_none, told_same}
 use Rattle.hm_core.proofs.RefusalLemmas.{refused_caused, refused_follows, refused_ordered, refuses}
@@ -44,6 +45,7 @@ returns-in-Err-2 g c =
             c.if-self-eq-GREATEST_ID.false a.lane a.line a.command c.requires.asked.served c.failure.result c.failure.ensures c.push_reserved.new.self.items
             c.push_reserved.ensures.items _ refl (omega (arith, stage.stage.waits.spare, c.push_reserved.ensures.len, c.push_reserved.ensures.capacity)),
       );
+      choices = λ id there. ap (λ v. choice_among id v.items) stage.running;
       follows = refused_follows past since (seen s) (seen m) stage.stage stage.follows c.in-Err.field-0 stage.cause m.ordered
           c.if-self-eq-GREATEST_ID.false a.lane a.line a.command c.requires.asked.served c.failure.result c.failure.ensures c.push_reserved.new.self.items
           c.push_reserved.ensures.items _ refl stage.uncounted c.core_is_sound.ensures;

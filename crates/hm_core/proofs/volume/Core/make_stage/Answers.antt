@@ -34,7 +34,8 @@ invariant_of-self g c =
       numbered = s.numbered;
       ordered = ∥∥₁_map s.ordered (ordered_staged (seen s) f' h' result flushes made.ready);
       caused = ∥∥₁_map s.caused (λ so_far.
-          caused_later s.first.0 (disk_counts s.start) (seen s).counts (disk_counts (g.D.Disk.faults t.space.disk)) s.last.0 (seen s).running s.history.items so_far
+          caused_later s.first.0 (disk_counts s.start) (seen s).counts (disk_counts (g.D.Disk.faults t.space.disk)) s.last.0 (seen s).running
+          s.history.items so_far
           (disk_later (disk_counts 0) (seen s).counts.disk (g.D.Disk.faults t.space.disk) made.cause.counted.never_falls));
     }
 
@@ -57,6 +58,7 @@ returns g c =
     record { only = g.met.D.Disk.only_now s.stored.space.disk; earlier = g.met.D.Disk.since_earlier t.space.disk } in
     record {
       stage = search rules;
+      running = refl;
       follows = stage_follows (seen s) f' h' counts result past since flushes made.disk left later s.ordered refl t.root made.root c.core_is_sound.ensures;
       uncounted = stage_goes_on (seen s) f' h' (seen s).counts result past since flushes made.disk left (later_same (seen s).counts) s.ordered refl t.root
           made.root;

@@ -9,7 +9,7 @@ use Rattle.hm_core.specs.Numbers.{numbers_told}
 use Rattle.hm_core.specs.Counts.{disk_counts}
 use Rattle.hm_core.specs.Inside.{IsInOrder}
 use Rattle.hm_core.specs.Mounting.{IsReadFrom}
-use Rattle.hm_core.specs.Running.{open_prunes}
+use Rattle.hm_core.specs.Running.{open_jobs}
 use Rattle.hm_core.proofs.CausedLemmas.{caused_first}
 use Rattle.hm_core.proofs.CountLemmas.{disk_later}
 use Rattle.hm_core.proofs.MountingLemmas.{is_mounted, mounts_disk, ordered_first}
@@ -51,7 +51,7 @@ invariant_of-core g c =
           (recovered_header_on c.in-Ok.opened (g.D.Disk.left_since c.args.disk) (g.D.Disk.left_since c.recover.new.disk) (g.D.Disk.told c.args.disk) told
           c.in-Ok.ensures.ok) read)) ∣₁;
       caused = ∣ caused_first header.last.0 (disk_counts c.faults.result) (disk_counts (g.D.Disk.faults s.disk)) header.last.0 _ _
-          (ap open_prunes c.new-in-Ok-open_space-2.ensures.items) c.new-in-Ok-open_space.ensures.items
+          (ap open_jobs c.new-in-Ok-open_space-2.ensures.items) c.new-in-Ok-open_space.ensures.items
           (disk_later (disk_counts 0) c.faults.result (g.D.Disk.faults s.disk) (omega (arith, start))) refl ∣₁;
     }
 
@@ -75,7 +75,8 @@ returns-in-Ok-open_space-clause-ok g c =
     let counted : g.D.Disk.faults c.args.disk ≤ g.D.Disk.faults s.disk =
     omega (arith, c.recover.ensures.cause.never_falls, c.in-Ok-open_space.ensures.faults, same) in
     is_mounted _ header c.in-Ok.opened.slot c.new.ensures c.new-in-Ok-open_space.ensures.items c.over.ensures.root (refl, refl) refl
-    (ap disk_counts start) (ap open_prunes c.new-in-Ok-open_space-2.ensures.items) told (g.D.Disk.faults c.args.disk) counted c.in-Ok.ensures.opened.none read c.core_is_sound.ensures
+    (ap disk_counts start) (ap open_jobs c.new-in-Ok-open_space-2.ensures.items) told (g.D.Disk.faults c.args.disk) counted c.in-Ok.ensures.opened.none read
+    c.core_is_sound.ensures
 
 pub returns-in-Ok-open_space-clause-disk : goal.returns-in-Ok-open_space-clause-disk
 unfolding heap_of
@@ -98,7 +99,7 @@ returns-in-Ok-open_space-clause-disk g c =
     (ap (λ s. D.past s.disk) c.over.ensures.space ∙ c.in-Ok-open_space.ensures.past) is.disk c.in-Ok.ensures.ok c.in-Ok.ensures.any_moment in
     mounts_disk _ header c.in-Ok.opened.slot c.new.ensures c.new-in-Ok-open_space.ensures.items c.over.ensures.root (refl, refl) refl
     (ap disk_counts (c.faults.ensures ∙ ap D.faults c.disk.ensures ∙ sym (ap (λ s. D.faults s.disk) c.over.ensures.space)))
-    (ap open_prunes c.new-in-Ok-open_space-2.ensures.items) (D.left_since old) (D.left_since s.disk) (D.told old) (D.told mid) after is
+    (ap open_jobs c.new-in-Ok-open_space-2.ensures.items) (D.left_since old) (D.left_since s.disk) (D.told old) (D.told mid) after is
 
 pub returns-in-Err-open_space-clause-err : goal.returns-in-Err-open_space-clause-err
 returns-in-Err-open_space-clause-err g c =
