@@ -10,8 +10,8 @@ and what it keeps is a set of ids. No element, node or page stands here. Each ca
 its checks in their order, each below the sentence that it follows.
 
 A word is left open, and printed as `*`, where the calls before do not tell it:
-- the free big-blocks of `df`, once something may have become free or a count of bytes comes near the
-  edge of a big-block (plain_space.py), and then whether a change finds space;
+- the free big-blocks of `df`, once something may have become free or have moved, or a count of bytes
+  comes near the edge of a big-block (plain_space.py), and then whether a change or a reblock finds space;
 - the durable id of `progress`, after changes that no `sync` has followed;
 - whether a `mirror-copy` with a LIMIT above 1 is cut, since items are pieces of a tree, unless the limit
   is above any number of items, and each reply after that;

@@ -27,8 +27,8 @@ BAD_LINES = [
     'frob /a', 'mkdir', 'mkdir /a /b', ' ls /', 'ls  /', 'ls / ', 'ls\t/', 'LS /', 'cat /a 0 0',
     'cat /a 0 16385', 'cat /a 00 1', 'fill /a 0 65537 00', 'fill /a 0 1 0', 'write /a 0 0', 'write /a 0 0g',
     'truncate /a -1', 'truncate /a 18446744073709551616', 'sync /', 'prune', '1: ls /', 'progress',
-    'ls /\x7f', 'df /', '\r', 'reblock', 'pfs-upgrade /a', 'mirror-copy /a /b', 'pfs-master /a 00000000000000a',
-    'prune-everything / /', '1: prune /',
+    'ls /\x7f', 'df /', '\r', 'reblock 0', 'reblock 101', 'pfs-upgrade /a', 'mirror-copy /a /b',
+    'pfs-master /a 00000000000000a', 'prune-everything / /', '1: prune /', '1: reblock',
 ]
 DEEPEST = 12
 EDGES = [0, 1, 2, 9, 4_095, 4_096, 16_383, 16_384, 16_385, 32_767, 32_768, 40_000, 65_536, 100_000]
@@ -237,15 +237,15 @@ class Author:
             'mkdir': 7, 'touch': 8, 'symlink': 3, 'snapshot': 2, 'ln': 6, 'rm': 6, 'rmdir': 4, 'mv': 12,
             'ls': 6, 'stat': 7, 'readlink': 3, 'write': 10, 'fill': 8 + 10 * self.fills, 'truncate': 8,
             'cat': 14, 'df': 2, 'sync': 1, 'synctid': 1, 'prune': 1, 'prune-everything': 0.2, 'pfs-master': 1,
-            'pfs-slave': 0.5, 'pfs-status': 1,
+            'pfs-slave': 0.5, 'pfs-status': 1, 'reblock': 0.3,
         }
         if self.on_bytes:
             calls |= {'write': 60, 'fill': 60, 'truncate': 60, 'cat': 80}
         if self.on_kept:
             calls |= {'symlink': 15, 'snapshot': 20, 'mv': 20, 'prune': 12, 'prune-everything': 0.5, 'pfs-master': 5,
-                      'pfs-slave': 3, 'pfs-status': 8, 'readlink': 6}
+                      'pfs-slave': 3, 'pfs-status': 8, 'readlink': 6, 'reblock': 4}
         if not self.served:
-            calls |= {name: 2 for name in PLANNED} | {'mirror-copy': 6, 'prune-everything': 0.3}
+            calls |= {name: 2 for name in PLANNED} | {'mirror-copy': 6, 'prune-everything': 0.3, 'reblock': 2}
         name = self.random.choices(list(calls), calls.values())[0]
         return f'{name} {getattr(self, name.replace("-", "_"))()}'.rstrip(' ')
 
@@ -324,10 +324,10 @@ class Author:
 
     pfs_slave = pfs_master
 
-    # ---- what is planned
-
     def reblock(self):
         return self.random.choice(['', '1', '50', '100'])
+
+    # ---- what is planned
 
     def link(self, master):
         """A path to a PFS of a role, most often."""

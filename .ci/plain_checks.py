@@ -40,9 +40,9 @@ SYSTEM_CALLS = {
     'prune', 'prune-everything', 'pfs-status', 'pfs-upgrade', 'mirror-read', 'mirror-write', 'mirror-copy',
 }
 
-# How many big-blocks are held back from the work of housekeeping, which needs two zones at the most.
-HELD = {'reblock': 0, 'pfs-upgrade': 0, 'mirror-write': 4, 'mirror-copy': 4}
-UNIT_ZONES = 8, 9
+# How many zones the work of housekeeping needs at once, at the most, and how many big-blocks are held back from it. A unit of
+# a reblock moves what stands in one zone, whichever it is.
+WORK = {'reblock': (1, 0), 'pfs-upgrade': (2, 0), 'mirror-write': (2, 4), 'mirror-copy': (2, 4)}
 
 
 class Place(NamedTuple):
@@ -176,8 +176,8 @@ class History:
         self.last = self.id
         self.calls += 1
         # No space: a unit of the work, or the ending itself, may lack it.
-        held = HELD.get(command.name)
-        lacking = held is not None and self.space.may_lack(UNIT_ZONES, held, self.calls, self.told)
+        zones, held = WORK.get(command.name, (0, 0))
+        lacking = self.space.may_lack(zones, held, self.calls, self.told)
         return f'{opening} {id_text(self.id)} {lacking or ending(self, opened, *command.values)}'
 
     # ---- checks that all calls share

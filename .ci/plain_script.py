@@ -90,7 +90,7 @@ FORMS = {
 }
 
 # The forms that the program reads, and does not serve yet: a line of one is a bad line there.
-PLANNED = {'reblock', 'pfs-upgrade', 'mirror-read', 'mirror-write', 'mirror-copy', 'progress'}
+PLANNED = {'pfs-upgrade', 'mirror-read', 'mirror-write', 'mirror-copy', 'progress'}
 
 
 # ---- lines

@@ -3,8 +3,8 @@
 A zone begins a free big-block where the one that it is filling has less room left than its reserve.
 What a call puts into zone 10 and 11 follows from the rule that a block is written anew as a whole. What
 it puts into the other zones depends on the tree, so each count is kept as the least and the most that
-it may be. Where the two would decide differently, or something becomes free, the space is `open`: then
-the free big-blocks are known by a bound alone.
+it may be. Where the two would decide differently, or something becomes free or moves, the space is `open`:
+then the free big-blocks are known by a bound alone, and once something moved not even by that (`unbound`).
 """
 
 import re
@@ -48,7 +48,7 @@ class Space:
             self.open |= least != most
             needed += [zone] * least
         if self.open:
-            return self.may_lack(zones, held, calls, told)
+            return self.may_lack(len(zones), held, calls, told)
         # No space exactly where more are needed than are free beside those that are held back.
         if needed and len(needed) > max(0, self.free - held):
             return f'no space {self.free} {len(needed)}'
@@ -58,11 +58,11 @@ class Space:
         return None
 
     def may_lack(self, zones, held, calls, told):
-        """Where the space is open, what was told is taken if it may be."""
+        """Where the space is open, what was told of so many zones is taken if it may be."""
         words = re.fullmatch(r'no space (\d+) (\d+)', told or '')
         if words:
             free, needed = int(words[1]), int(words[2])
-            if (1 <= needed <= len(zones) and needed > max(0, free - held)
+            if (1 <= needed <= zones and needed > max(0, free - held)
                     and self.floor(calls) <= free <= self.pool):
                 return told
         return None

@@ -14,7 +14,7 @@ use Rattle.hm_model.specs.declared.command.Command.TheVariants.{End}
 use Rattle.hm_model.specs.declared.entry.Entry.{Entry}
 use Rattle.hm_model.specs.declared.line.Line.{Line}
 use Rattle.hm_core.specs.Core.{EndsAtOnce, Enters, OpensJob}
-use Rattle.hm_core.specs.State.{CoreState, OpenPrune}
+use Rattle.hm_core.specs.State.{CoreState, OpenJob}
 use Rattle.hm_core.specs.declared.ticket.Ticket.{Ticket}
 use Rattle.hm_shell.specs.declared.serve.Called.TheVariants.{Closed, Opened}
 use Rattle.hm_shell.specs.declared.stop.RunStop.{RunStop}
@@ -73,10 +73,10 @@ module _ (old new : CoreState) (line : Line) where
     words_closed : printed_line (words_of (ends.enters.entry ∷ [])) ≡ printed_line (entry_words ends.enters.entry)
     words_closed = rw ends.closed refl
 
-  -- it opened a prune
+  -- it opened a call of housekeeping
   module _ (opening : ℕ) (job : OpensJob old new line.lane line.number old.last line.command opening) where
     running_more : length new.running ≡ length old.running + 1
-    running_more = ap length job.running ∙ length-append old.running (job.prune ∷ [])
+    running_more = ap length job.running ∙ length-append old.running (job.job ∷ [])
 
     -- and no id was left for its ending
     runs_unended : new.last ≡ GREATEST_ID → RunsLine old new line (job.enters.entry ∷ [])
@@ -85,11 +85,11 @@ module _ (old new : CoreState) (line : Line) where
     words_unended : printed_line (words_of (job.enters.entry ∷ [])) ≡ unended_line job.enters.entry
     words_unended = rw job.accepted refl
 
--- it opened a prune, and that ended
+-- it opened a call of housekeeping, and that ended
 module _ (old mid new : CoreState) (line : Line) (opening : ℕ) (job : OpensJob old mid line.lane line.number old.last line.command opening)
     (ends : EntersEnding opening mid new) where
-  same_prune : ends.prune ≡ job.prune
-  same_prune = (let same : Some ends.prune ≡ Some job.prune = sym ends.found ∙ job.found in cc)
+  same_job : ends.job ≡ job.job
+  same_job = (let same : Some ends.job ≡ Some job.job = sym ends.found ∙ job.found in cc)
 
   history_two : new.history ≡ old.history ++ (job.enters.entry ∷ ends.enters.entry ∷ [])
   history_two = ends.enters.history ∙ ap (λ h. h ++ ends.enters.entry ∷ []) job.enters.history
@@ -98,8 +98,8 @@ module _ (old mid new : CoreState) (line : Line) (opening : ℕ) (job : OpensJob
   ending_own : IsEndingOf line job.enters.entry ends.enters.entry
   ending_own = record {
     own = record {
-      lane = ends.enters.of_line.0 ∙ ap (λ (p : OpenPrune). p.lane) same_prune ∙ job.own.1;
-      number = ends.enters.of_line.1 ∙ ap (λ (p : OpenPrune). p.line) same_prune ∙ job.own.2;
+      lane = ends.enters.of_line.0 ∙ ap (λ (p : OpenJob). p.lane) same_job ∙ job.own.1;
+      number = ends.enters.of_line.1 ∙ ap (λ (p : OpenJob). p.line) same_job ∙ job.own.2;
     };
     command = ends.enters.of_line.2 ∙ ap (λ (n : ℕ). End (record { 0 = n })) (sym job.named);
   }
@@ -164,7 +164,7 @@ module _ (old new : CoreState) (line : Line) (place : ℕ) (calls : CallsLine ol
         → IfErr r (StoppedServing old new line held holds)
     closed_stopped = stops_by old new line _ (runs_closed old new line calls.1) (printed_line (entry_words e)) closed_words r
 
--- a line that opened a prune
+-- a line that opened a call of housekeeping
 module _ (old mid new : CoreState) (line : Line) (place : ℕ) (ticket : Ticket)
     (calls : CallsLine old mid line.lane line.number line.command (Opened place ticket)) where
   -- which ended

@@ -1,5 +1,6 @@
 -- The lines of a script that are served, and the first that is not.
-use Rattle.std.proofs.Common.{◌≡◌, ◌≢◌, ◌⊎◌, inl, inr, ℕ, ◌+◌, ◌-◌, ◌<◌, ◌≤◌, true, false, List, [], ◌∷◌, ◌++◌, Option, Some, None, length, take, drop, get_or, zero, suc, refl, sym, ap, subst, ◌∙◌, arith, append-nil, append_assoc}
+use Rattle.std.proofs.Common.{◌≡◌, ◌≢◌, ◌⊎◌, inl, inr, ℕ, ◌+◌, ◌-◌, ◌<◌, ◌≤◌, true, false, List, [], ◌∷◌, ◌++◌, Option, Some, None}
+use Rattle.std.proofs.Common.{length, take, drop, get_or, zero, suc, refl, sym, ap, subst, ◌∙◌, arith, append-nil, append_assoc}
 use Rattle.std.specs.Prelude.{All, Contains, slice_index_or}
 use Rattle.std.specs.List.{AllByRecursion}
 use Rattle.std.proofs.Math.Seq.{split_at, take-append_seam}
@@ -10,12 +11,16 @@ use Rattle.std.proofs.lemmas.List.Elements.{All-append, All-contains, All-from_r
 use Rattle.std.proofs.lemmas.List.Elements.{Contains-append_right, recursion_from_All}
 use Rattle.hm_calls.specs.Answered.{IsAnswerable}
 use Rattle.hm_model.specs.declared.command.Command.{Command}
-use Rattle.hm_model.specs.declared.command.Command.TheVariants.{Mkdir, Touch, Symlink, Snapshot, Ln, Mv, Write, Fill, Truncate, Rm, Rmdir, Ls, Cat, Stat, Readlink, Sync, Synctid, Prune, PruneAll, Reblock, PfsMaster, PfsSlave, PfsStatus, PfsUpgrade, MirrorRead, MirrorWrite, MirrorCopy, Df, Progress, End}
+use Rattle.hm_model.specs.declared.command.Command.TheVariants.{Mkdir, Touch, Symlink, Snapshot, Ln, Mv, Write, Fill, Truncate}
+use Rattle.hm_model.specs.declared.command.Command.TheVariants.{Rm, Rmdir, Ls, Cat, Stat, Readlink, Sync, Synctid, Prune}
+use Rattle.hm_model.specs.declared.command.Command.TheVariants.{PruneAll, Reblock, PfsMaster, PfsSlave, PfsStatus, PfsUpgrade}
+use Rattle.hm_model.specs.declared.command.Command.TheVariants.{MirrorRead, MirrorWrite, MirrorCopy, Df, Progress, End}
 use Rattle.hm_model.specs.declared.line.Line.{Line}
 use Rattle.hm_model.specs.Lines.{texts_of}
 use Rattle.hm_model.specs.Out.{lines_in}
 use Rattle.hm_model.specs.Script.{Gives, IsFirstBadLine, IsGood, IsScriptOf, IsTooLong, ReadEach, blocks_of, goes_on, is_remark, with_line}
 use Rattle.hm_script.proofs.ScriptLemmas.{gives_is_one}
+use Rattle.hm_core.specs.Open.{IsReblock}
 use Rattle.hm_core.specs.Served.{IsServed}
 use Rattle.hm_shell.specs.Alone.{BeginsCall, alone}
 use Rattle.hm_shell.specs.Lines.{NumbersRise, AreServedLines, IsFirstRefused, IsFirstUnserved, IsServable, IsServedLine, IsServedText}
@@ -83,9 +88,14 @@ answerable_begins Df is = absurd is
 answerable_begins Progress is = absurd is
 answerable_begins (End opening) is = absurd is
 
+reblock_begins : (command : Command) → IsReblock command → BeginsCall command
+reblock_begins (Reblock fill) is = record { calls = λ e. absurd (cc); begins = refl }
+reblock_begins other is = absurd is
+
 served_begins : (command : Command) → IsServed command → BeginsCall command
 served_begins command (inl (inl is)) = answerable_begins command is
-served_begins command (inl (inr is)) = subst BeginsCall (sym is) (record { calls = λ e. absurd (cc); begins = refl })
+served_begins command (inl (inr (inl is))) = subst BeginsCall (sym is) (record { calls = λ e. absurd (cc); begins = refl })
+served_begins command (inl (inr (inr is))) = reblock_begins command is
 served_begins command (inr (inl is)) = subst BeginsCall (sym is) (record { calls = λ e. absurd (cc); begins = refl })
 served_begins command (inr (inr is)) = subst BeginsCall (sym is) (record { calls = λ e. absurd (cc); begins = refl })
 

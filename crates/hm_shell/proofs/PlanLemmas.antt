@@ -36,7 +36,8 @@ module _ (words : List (List ℕ)) (volume other : List ℕ) (size another : ℕ
     ]
   ]
 
-pub plan_is_one : (words : List (List ℕ)) (volume other : List ℕ) (newfs another : Option ℕ) → IsPlan words volume newfs → IsPlan words other another → (volume ≡ other) × (newfs ≡ another)
+pub plan_is_one : (words : List (List ℕ)) (volume other : List ℕ) (newfs another : Option ℕ) → IsPlan words volume newfs → IsPlan words other another →
+    (volume ≡ other) × (newfs ≡ another)
 plan_is_one words volume other None None first second = let same : volume ∷ [] ≡ other ∷ [] = sym first.0 ∙ second.0 in (cc, refl)
 plan_is_one words volume other None (Some another) first second = elim second.order [
   | inl is ↦ let same : volume ∷ [] ≡ other ∷ newfs_option ∷ second.word ∷ [] = sym first.0 ∙ is in absurd (cc)

@@ -1,5 +1,6 @@
 -- How many lines a text has, by its line feeds.
-use Rattle.std.proofs.Common.{◌≡◌, ◌≢◌, ℕ, zero, suc, ◌+◌, ◌<◌, ◌≤◌, Bool, true, false, List, [], ◌∷◌, ◌++◌, length, get_or, refl, ◌∙◌, ap, arith, eqb, cond, length-append, if◌then◌else◌}
+use Rattle.std.proofs.Common.{◌≡◌, ◌≢◌, ℕ, zero, suc, ◌+◌, ◌<◌, ◌≤◌, Bool, true, false, List, [], ◌∷◌, ◌++◌}
+use Rattle.std.proofs.Common.{length, get_or, refl, ◌∙◌, ap, arith, eqb, cond, length-append, if◌then◌else◌}
 use Rattle.std.proofs.lemmas.Bool.Decides.{nat_tests}
 use Rattle.std.proofs.lemmas.List.{get_or-append-add}
 use Rattle.std.proofs.lemmas.List.Sums.{sum_by-append, sum_by-cons}
@@ -51,13 +52,28 @@ one_at_other b other = let no : eqb b line_feed ≡ false = grind (arith, nat_te
 -- how many lines there are after one more piece, which is not empty
 pub lines_ended : (s p : List ℕ) (i d : ℕ) → suc i ≡ length p → get_or p i d ≡ line_feed → length (texts_of (s ++ p)) ≡ feeds s + feeds p
 lines_ended s p i d is last =
-    omega (arith, lines_by_last (s ++ p) (length s + i) d (omega (arith, is, length-append s p)), ap one_at (get_or-append-add s p i d), one_at_feed (get_or p i d) last, feeds-append s p)
+    omega (
+      arith,
+      lines_by_last (s ++ p) (length s + i) d (omega (arith, is, length-append s p)),
+      ap one_at (get_or-append-add s p i d),
+      one_at_feed
+          (get_or p i d) last,
+      feeds-append s p,
+    )
 
 pub lines_open : (s p : List ℕ) (i d : ℕ) → suc i ≡ length p → get_or p i d ≢ line_feed → length (texts_of (s ++ p)) ≡ feeds s + feeds p + 1
 lines_open s p i d is last =
-    omega (arith, lines_by_last (s ++ p) (length s + i) d (omega (arith, is, length-append s p)), ap one_at (get_or-append-add s p i d), one_at_other (get_or p i d) last, feeds-append s p)
+    omega (
+      arith,
+      lines_by_last (s ++ p) (length s + i) d (omega (arith, is, length-append s p)),
+      ap one_at (get_or-append-add s p i d),
+      one_at_other
+          (get_or p i d) last,
+      feeds-append s p,
+    )
 
-lines_more : (x : Bool) (b : ℕ) (bs : List ℕ) (texts : List (List ℕ)) → eqb b line_feed ≡ x → length (texts_of bs) ≤ length texts → length (texts_of (b ∷ bs)) ≤ length (if eqb b line_feed then [] ∷ texts else with_first b texts)
+lines_more : (x : Bool) (b : ℕ) (bs : List ℕ) (texts : List (List ℕ)) → eqb b line_feed ≡ x → length (texts_of bs) ≤ length texts → length
+    (texts_of (b ∷ bs)) ≤ length (if eqb b line_feed then [] ∷ texts else with_first b texts)
 lines_more true b bs texts is fewer = rw is (omega (arith, fewer))
 lines_more false b bs texts is fewer = rw is (with_fewer (texts_of bs) texts fewer)
   where

@@ -33,7 +33,8 @@ use Rattle.hm_shell.specs.Alone.{IsAlone, out_text}
 use Rattle.hm_shell.specs.Lines.{IsServedLine}
 use Rattle.hm_shell.specs.Making.{MakesWhereAsked}
 use Rattle.hm_shell.specs.Opening.{OpensDisk}
-use Rattle.hm_shell.specs.Running.{AnswersEveryLine, AnswersInPart, BeginsOn, HasHistory, HoldsSyncs, IsCountedBetween, KeepsVolume, KeepsHeader, KeepsHeaderOn, OverEach, Ran}
+use Rattle.hm_shell.specs.Running.{AnswersEveryLine, AnswersInPart, BeginsOn, HasHistory, HoldsSyncs, IsCountedBetween}
+use Rattle.hm_shell.specs.Running.{KeepsVolume, KeepsHeader, KeepsHeaderOn, OverEach, Ran}
 use Rattle.hm_shell.specs.Running.{RunsAll, StandsForHistory, StopsAtLine, StopsWriting, StoppedRunning, StoppedUsing}
 use Rattle.hm_shell.specs.Seen.{Seen}
 use Rattle.hm_shell.specs.Serving.{IsCommittedAtEnd, KeepsSize, Served, ServedInPart, StopsUsing, UsesAll}

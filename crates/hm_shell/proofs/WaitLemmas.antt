@@ -2,9 +2,10 @@
 use Rattle.std.proofs.Common.{◌≡◌, ◌⊎◌, ℕ, ◌+◌, ◌<◌, length, [], ◌∷◌, ◌++◌, sym, ◌∙◌}
 use Rattle.std.proofs.Common.{ap, subst, inl, inr, arith}
 use Rattle.hm_types.specs.declared.limits.TheConstants.{GREATEST_ID}
+use Rattle.hm_disk.specs.Moments.{LeftSince}
 use Rattle.hm_flush.specs.declared.flush.Flush.{Flush}
 use Rattle.hm_model.specs.declared.command.Command.{Command}
-use Rattle.hm_core.specs.Core.{EndsAtOnce, Enters, KeepsStreams, OpensJob, Steps, Waits}
+use Rattle.hm_core.specs.Core.{EndsAtOnce, Enters, Follows, KeepsStreams, OpensJob, Steps, Waits}
 use Rattle.hm_core.specs.Staged.{MakesStage, Stages}
 use Rattle.hm_core.specs.declared.staged.Staged.TheVariants.{More, Refused}
 use Rattle.hm_core.specs.declared.step.Step.TheVariants.{Answered, MustFlush, Opened as opened_step}
@@ -56,7 +57,7 @@ module _ (lane line since : ℕ) (command : Command) where
             (let was = waits.spare in let open_is = ap length waits.running in let least = enters.spare in omega (arith, was, open_is, least));
       }
 
-  -- the same of a call that is at its end, and of the opening of a prune
+  -- the same of a call that is at its end, and of an opening of housekeeping
   waited_ends : (a b c : CoreState) → Waited a b → EndsAtOnce b c lane line since command → EndsAtOnce a c lane line since command
   unfolding waits_enters
   waited_ends a b c (inl same) ends = subst (λ (x : CoreState). EndsAtOnce x c lane line since command) same ends
@@ -66,18 +67,22 @@ module _ (lane line since : ℕ) (command : Command) where
     running = ends.running ∙ waited.0.running;
   }
 
-  waited_opens : (opening : ℕ) (a b c : CoreState) → Waited a b → OpensJob b c lane line since command opening
-      → OpensJob a c lane line since command opening
+  waited_opens : (opening : ℕ) (past now : LeftSince) (a b c : CoreState) → Follows past now a b → Waited a b
+      → OpensJob b c lane line since command opening → OpensJob a c lane line since command opening
   unfolding waits_enters
-  waited_opens opening a b c (inl same) job = subst (λ (x : CoreState). OpensJob x c lane line since command opening) same job
-  waited_opens opening a b c (inr waited) job = record {
+  waited_opens opening past now a b c follows (inl same) job = subst (λ (x : CoreState). OpensJob x c lane line since command opening) same job
+  waited_opens opening past now a b c follows (inr waited) job = record {
     enters = waits_enters a b c waited.0 job.enters;
     accepted = job.accepted;
-    prune = job.prune;
+    job = job.job;
     own = job.own;
+    does = job.does;
     named = job.named;
-    running = job.running ∙ ap (λ ps. ps ++ job.prune ∷ []) waited.0.running;
+    running = job.running ∙ ap (λ ps. ps ++ job.job ∷ []) waited.0.running;
     found = job.found;
+    keeps = λ began foreigners events stands.
+        let on = follows.goes_on began foreigners events stands in
+        job.keeps began foreigners (events ++ on.more) on.stands;
   }
 
 module _ (old mid : CoreState) (lane number since : ℕ) (command waiting : Command) (waited : Waited old mid) (since_is : since ≡ old.last)
@@ -98,14 +103,14 @@ module _ (old mid : CoreState) (lane number since : ℕ) (command waiting : Comm
   pub size_answered : (new : CoreState) (place : ℕ) → Steps mid new lane number since waiting (Answered place) → KeepsSize old mid → KeepsSize old new
   size_answered new place steps size = ap (λ (f : Flush). f.header.bigblocks) steps.2 ∙ size
 
-  -- it opened a prune
-  pub opened_after : (new : CoreState) (place : ℕ) (ticket : Ticket) → Steps mid new lane number since waiting (opened_step place ticket)
-      → CallsLine old new lane number command (Opened place ticket)
-  opened_after new place ticket steps = (
+  -- it opened a call of housekeeping
+  pub opened_after : (past now : LeftSince) → Follows past now old mid → (new : CoreState) (place : ℕ) (ticket : Ticket)
+      → Steps mid new lane number since waiting (opened_step place ticket) → CallsLine old new lane number command (Opened place ticket)
+  opened_after past now follows new place ticket steps = (
     steps.0 ∙ waited_length old mid waited,
     subst (λ (s : ℕ). OpensJob old new lane number s command ticket.opening.0) since_is
         (subst (λ (c : Command). OpensJob old new lane number since c ticket.opening.0) command_is
-        (waited_opens lane number since waiting ticket.opening.0 old mid new waited steps.1)),
+        (waited_opens lane number since waiting ticket.opening.0 past now old mid new follows waited steps.1)),
   )
 
   pub size_opened : (new : CoreState) (place : ℕ) (ticket : Ticket) → Steps mid new lane number since waiting (opened_step place ticket)

@@ -14,9 +14,9 @@ use Rattle.hm_model.specs.Reply.{told_boundary}
 use Rattle.hm_core.specs.Core.{EndsAtOnce, Enters, Follows, IsCausedRun, OpensJob, Waits}
 use Rattle.hm_core.specs.Counts.{with_disk}
 use Rattle.hm_core.specs.Finished.{IsCommittedOn}
-use Rattle.hm_core.specs.Jobs.{ClosesPrune}
+use Rattle.hm_core.specs.Jobs.{ClosesJob}
 use Rattle.hm_core.specs.Staged.{IsFlushed}
-use Rattle.hm_core.specs.State.{CoreState, OpenPrune, prune_with}
+use Rattle.hm_core.specs.State.{CoreState, OpenJob, job_with}
 use Rattle.hm_shell.specs.declared.serve.Called.{Called}
 use Rattle.hm_shell.specs.declared.serve.Called.TheVariants.{Closed, Opened, Spent}
 use Rattle.hm_shell.specs.declared.stop.RunStop.{RunStop}
@@ -70,7 +70,7 @@ abbrev pub Waited : CoreState → CoreState → Type 0
 Waited old new = (new ≡ old) ⊎ (Waits old new × (old.last < GREATEST_ID))
 
 -- A call was answered, after the stages for which it waited: its entry stands at this place of the history, and it is at its end, or it opened
--- a prune. Or no id was left.
+-- a call of housekeeping. Or no id was left.
 abbrev pub CallsLine : CoreState → CoreState → ℕ → ℕ → Command → Called → Type 0
 CallsLine old new lane number command (Closed place) =
     (place ≡ length old.history) × EndsAtOnce old new lane number old.last command
@@ -78,12 +78,12 @@ CallsLine old new lane number command (Opened place ticket) =
     (place ≡ length old.history) × OpensJob old new lane number old.last command ticket.opening.0
 CallsLine old new lane number command Spent = (old.last ≡ GREATEST_ID) × (new ≡ old)
 
--- An open prune came to its end: its ending was entered, with the lane and the line of its opening.
+-- An open call came to its end: its ending was entered, with the lane and the line of its opening.
 pub record EntersEnding (opening : ℕ) (old new : CoreState) : Type 0 where
-  pub prune : OpenPrune
-  pub found : prune_with opening old.running ≡ Some prune
-  pub enters : Enters old new prune.lane prune.line old.last (End (record { 0 = opening }))
-  pub closes : ClosesPrune opening old new
+  pub job : OpenJob
+  pub found : job_with opening old.running ≡ Some job
+  pub enters : Enters old new job.lane job.line old.last (End (record { 0 = opening }))
+  pub closes : ClosesJob opening old new
 
 -- its ending stands at this place of the history, or no id was left for it
 abbrev pub EndsOrLacks : ℕ → CoreState → CoreState → Option ℕ → Type 0

@@ -25,8 +25,8 @@ use std::thread::Threads;
 /// line is run, and commits what is left in a last flush.
 ///
 /// A flush is made in stages. One is due before a line is answered where the changed pages fill a group,
-/// and for a sync until all that was answered before it is committed. A prune that a line opened is
-/// brought to its end, unit by unit, before the next line is run; the run waits as long as that takes.
+/// and for a sync until all that was answered before it is committed. A prune or a reblock that a line
+/// opened is brought to its end, unit by unit, before the next line is run; the run waits as long as that takes.
 ///
 /// It ends with status 0 once each line was answered and the volume is on the disk. Else it ends
 /// at the first of these that it meets: words that break the rule (2), a fault of the script's

@@ -2,7 +2,7 @@
 ghost use Rattle.std.specs.Prelude.{◌≡◌, ◌*◌, ◌≤◌, [], IfErr, OnErr, OnOk, All, length};
 ghost use Rattle.hm_types.specs.declared.limits.TheConstants.{MOST_SCRIPT_LINES};
 ghost use Rattle.hm_core.specs.Core.{Follows, KeepsStreams};
-ghost use Rattle.hm_core.specs.Jobs.{IsOpenPrune};
+ghost use Rattle.hm_core.specs.Jobs.{IsOpenJob};
 ghost use Rattle.hm_core.specs.Seen.{devices as devices_of, seen as seen_core};
 ghost use Rattle.hm_core.specs.Served.{IsAsked};
 ghost use Rattle.hm_shell.specs.Lines.{NumbersRise, IsServedLine};
@@ -26,7 +26,7 @@ use std::sync::Wait;
 enum Called {
     /// It was answered, and opened nothing. Its entry stands at this place of the history.
     Closed(usize),
-    /// It is the opening of a prune that was accepted, with its entry at this place of the history.
+    /// It is an opening that was accepted, with its entry at this place of the history.
     Opened(usize, Ticket),
     /// No id was left for it.
     Spent,
@@ -90,7 +90,7 @@ fn serve_lines<W: Wait, D: Disk, I, O, K: Sink>(
     Ok(())
 }
 
-// Runs one line, and prints its reply; of a prune that it opened, once that has ended, with the ending.
+// Runs one line, and prints its reply; of what it opened, once that has ended, with the ending.
 fn serve_line<W: Wait, D: Disk, I, O, K: Sink>(
     rt: &W,
     alloc: Global,
@@ -117,7 +117,7 @@ fn serve_line<W: Wait, D: Disk, I, O, K: Sink>(
     } = line;
     match call_line(core, lane, number, command) {
         Called::Closed(place) => print_entry(alloc, core.entry(place), out),
-        Called::Opened(opening, ticket) => match end_prune(rt, core, ticket) {
+        Called::Opened(opening, ticket) => match end_job(rt, core, ticket) {
             Some(ending) => print_ended(alloc, core.entry(opening), core.entry(ending), out),
             None => print_unended(alloc, core.entry(opening), out),
         },
@@ -157,14 +157,14 @@ fn call_line<D: Disk, I, O>(
     }
 }
 
-// Does the units of an open prune until its ending stands, and tells where. Where no id is left for an
+// Does the units of an open call until its ending stands, and tells where. Where no id is left for an
 // ending, none is done.
-fn end_prune<W: Wait, D: Disk, I, O>(
+fn end_job<W: Wait, D: Disk, I, O>(
     rt: &W,
     core: &mut Core<D, I, O>,
     ticket: Ticket,
 ) -> Option<usize>
-    requires open { IsOpenPrune ticket.opening.0 (seen_core core.old) }
+    requires open { IsOpenJob ticket.opening.0 (seen_core core.old) }
     ensures ends { EndsOrLacks ticket.opening.0 (seen_core core.old) (seen_core core.new) result }
     ensures follows { Follows (D.left_since (devices_of core.old).disk)
         (D.left_since (devices_of core.new).disk) (seen_core core.old) (seen_core core.new) }

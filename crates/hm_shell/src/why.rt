@@ -27,7 +27,7 @@ pub enum Why {
 }
 
 // The calls that are served, and those that are planned.
-const SERVED: [&[u8]; 18] = [
+const SERVED: [&[u8]; 24] = [
     b"mkdir",
     b"touch",
     b"symlink",
@@ -46,15 +46,15 @@ const SERVED: [&[u8]; 18] = [
     b"df",
     b"sync",
     b"synctid",
-];
-
-const PLANNED: [&[u8]; 11] = [
     b"prune",
     b"prune-everything",
     b"reblock",
     b"pfs-master",
     b"pfs-slave",
     b"pfs-status",
+];
+
+const PLANNED: [&[u8]; 5] = [
     b"pfs-upgrade",
     b"mirror-read",
     b"mirror-write",
@@ -118,13 +118,16 @@ mod tests {
 
     #[test]
     fn tells_what_is_wrong_with_a_line(rt: HostRuntime) {
-        let script = b"mkdir /a\nls /\r\n1: ls /\nprune /\nfill /a 0 0 61\nfrob /b";
+        let script =
+            b"mkdir /a\nls /\r\n1: ls /\npfs-upgrade /\nfill /a 0 0 61\nfrob /b\nreblock 0\nprune";
         let rows = [
             (2, Why::CarriageReturn),
             (3, Why::Lane),
             (4, Why::Planned),
             (5, Why::Words),
             (6, Why::Name),
+            (7, Why::Words),
+            (8, Why::Words),
         ];
         for (number, want) in rows {
             assert_eq!(rt; Why::of_line(script, number), want, "{number}");

@@ -5,7 +5,8 @@ use Rattle.hm_shell.proofs.digits.hex_digits.Goals as goal
 
 pub loop-done-preserved : goal.loop-done-preserved
 loop-done-preserved c = (
-  next_digit c.args.number c.loop-done.rest c.loop-done.digits c.loop-done.done c.hex_digit.result (omega (arith, c.loop-done-test.true)) c.loop-done.invariant.1 c.hex_digit.ensures c.loop-done.invariant.0,
+  next_digit c.args.number c.loop-done.rest c.loop-done.digits c.loop-done.done c.hex_digit.result (omega (arith, c.loop-done-test.true))
+      c.loop-done.invariant.1 c.hex_digit.ensures c.loop-done.invariant.0,
   length-set c.loop-done.digits (15 - c.loop-done.done) c.hex_digit.result ∙ c.loop-done.invariant.1,
 )
 

@@ -5,7 +5,8 @@ use Rattle.hm_shell.proofs.print.put_all.Goals as goal
 
 pub returns-in_err-put-clause-err : goal.returns-in_err-put-clause-err
 returns-in_err-put-clause-err g c =
-    let part = Gains-part _ _ _ c.args.pieces.now c.loop-piece.piece-index _ c.in_err-put.ensures.err.0 c.loop-piece-test.true c.loop-piece.invariant.0 c.in_err-put.ensures.err.1 in
+    let part = Gains-part _ _ _ c.args.pieces.now c.loop-piece.piece-index _ c.in_err-put.ensures.err.0 c.loop-piece-test.true c.loop-piece.invariant.0
+    c.in_err-put.ensures.err.1 in
     on_err c.from_residual.result (Rose-wider _ _ _ _ c.loop-piece.invariant.1 c.in_err-put.ensures.cause.failed (omega arith), part.0, part.1)
 
 pub loop-piece-preserved : goal.loop-piece-preserved

@@ -41,7 +41,8 @@ returns-in-Answered-clause-calls g c =
 pub returns-in-Opened-clause-calls : goal.returns-in-Opened-clause-calls
 returns-in-Opened-clause-calls g c =
     opened_after (seen_core c.args.core.now) (seen_core c.waiting.core) c.args.lane c.args.number c.last-since.result.0 c.args.command
-    c.waiting.waiting c.waiting.invariant.waited c.waiting.invariant.since_is c.waiting.invariant.command_is (seen_core c.call.new.self)
+    c.waiting.waiting c.waiting.invariant.waited c.waiting.invariant.since_is c.waiting.invariant.command_is _ _ c.waiting.invariant.follows
+    (seen_core c.call.new.self)
     c.in-Opened.place c.in-Opened.ticket c.in-Opened.ensures.steps
 
 pub returns-in-Opened-clause-size : goal.returns-in-Opened-clause-size

@@ -3,7 +3,7 @@ use Rattle.hm_core.specs.Seen.{seen as seen_core}
 use Rattle.hm_core.proofs.CoreLemmas.{follows_further, follows_itself}
 use Rattle.hm_shell.proofs.UnitLemmas.{ending_entered, named_still, open_still, size_unit, waits_unit}
 use Rattle.hm_shell.proofs.WaitLemmas.{streams_more}
-use Rattle.hm_shell.proofs.serve.end_prune.Goals as goal
+use Rattle.hm_shell.proofs.serve.end_job.Goals as goal
 
 pub returns-then-last-eq-GREATEST_ID-clause-follows : goal.returns-then-last-eq-GREATEST_ID-clause-follows
 returns-then-last-eq-GREATEST_ID-clause-follows g c = follows_itself _ (seen_core c.args.core.now) c.core_is_sound.ensures

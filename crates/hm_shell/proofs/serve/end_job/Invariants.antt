@@ -2,7 +2,7 @@ use Rattle.std.proofs.Common.{◌≡◌}
 use Rattle.hm_core.specs.Core.{Follows, KeepsStreams, Waits}
 use Rattle.hm_core.specs.Seen.{devices as devices_of, seen as seen_core}
 use Rattle.hm_shell.specs.Serving.{KeepsSize}
-use Rattle.hm_shell.proofs.serve.end_prune.Given as goal
+use Rattle.hm_shell.proofs.serve.end_job.Given as goal
 
 abbrev pub invariant-loop : goal.invariant-loop
 invariant-loop g l = record {
