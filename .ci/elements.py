@@ -34,7 +34,8 @@ class Elements:
         self.last = number_in(self.header, 24, 8)
         self.filling = [number_in(self.header, at, 4) for at in (56, 60, 64, 68)]
         self.pool = range(log_begin(self.bigblocks) + 8, self.bigblocks)
-        self.nodes, self.elements = [], []
+        # All elements, and the byte at which the place of each one begins in its leaf.
+        self.nodes, self.elements, self.stands = [], [], []
         self.walk(self.root, None, LEAST, GREATEST, None)
 
     def expect(self, what, came, wanted):
@@ -59,6 +60,7 @@ class Elements:
             # A length has 4 bytes, and zeros behind it.
             found = [Element(key, key[4], one[3], one[5], one[8], one[9]) for one, key in zip(places, keys)]
             self.elements += found
+            self.stands += [place % 2**52 + 64 + 64 * i for i in range(len(found))]
             above = [e for e in found if own < max(e.create, e.delete)]
             self.expect(f'elements with an id above the mirror of leaf {place:#x}', above[:3], [])
             self.expect(f'elements with other ids in leaf {place:#x}', [e for e in found if not self.has_ids(e)][:3], [])
@@ -75,6 +77,10 @@ class Elements:
 
     def payload(self, element):
         return self.disk.read(element.place % 2**52, element.length)
+
+    def contents(self):
+        """All that is to stay of the elements, wherever their payloads stand."""
+        return [(e.key, e.delete, e.kind, self.payload(e)) for e in self.elements]
 
     def kept(self):
         """What each PFS keeps, by its record: pairs of a first and a last id."""
@@ -105,6 +111,19 @@ class Elements:
         counts = Counter((element.place, rounded(element.length)) for element in self.elements)
         counts.update((place, PAGE) for place in self.nodes)
         return [Extent(place % 2**52, length, place >> 60, count) for (place, length), count in sorted(counts.items())]
+
+    def sparse(self, fill):
+        """The big-blocks that a reblock chooses: those of the pool that no zone fills, and of which something is in use,
+        but less than so many hundredths."""
+        used = Counter()
+        for extent in self.extents():
+            used[extent.at // BIGBLOCK] += extent.length * extent.references
+        return [block for block in used if block not in self.filling and 100 * used[block] < fill * BIGBLOCK]
+
+    def check_emptied(self, chosen):
+        """Nothing stands any more in these big-blocks, but in those that a zone fills anew."""
+        left = [extent for extent in self.extents() if extent.at // BIGBLOCK in set(chosen) - set(self.filling)]
+        self.expect('what is left in big-blocks that a reblock chose', left[:3], [])
 
     def zone_of(self, element):
         if element.key[2] != BYTES:

@@ -132,6 +132,20 @@ class Disk:
             self.set(number, old[:begin] + part + old[begin + len(part):])
             at, data = at + len(part), data[len(part):]
 
+    def write_all(self, writes):
+        """Makes many writes, pairs of a place and bytes; a piece is copied once, however many of them it takes."""
+        changed = {}
+        for at, data in writes:
+            while data:
+                number, begin = divmod(at, self.PIECE)
+                part = data[:self.PIECE - begin]
+                if number not in changed:
+                    changed[number] = bytearray(self.piece(number))
+                changed[number][begin:begin + len(part)] = part
+                at, data = at + len(part), data[len(part):]
+        for number, piece in changed.items():
+            self.set(number, bytes(piece))
+
     def difference(self, other):
         """The first byte that is another one there, or nothing."""
         for number in sorted(self.pieces.keys() | other.pieces.keys()):

@@ -104,3 +104,46 @@ beside_plain_calls() {
         $1 == "s" { syncs++ }
         END { printf "%d reads of %d bytes, %d writes of %d bytes, %d syncs\n", reads, in_bytes, writes, out_bytes, syncs }' "$room/calls"
 }
+
+# Builds syncs that do nothing, for `run_unsynced`.
+build_nosync() {
+    echo 'int fsync(int file) { return -(file < 0); } int fdatasync(int file) { return -(file < 0); }' |
+        "${CC:-cc}" -O2 -shared -fPIC -o "$room/nosync.so" -x c - 2>"$room/err" || stop 'the syncs that do nothing were not built'
+}
+
+# Runs the program with the script in a file over the volume, with syncs that do nothing.
+run_unsynced() { LD_PRELOAD=$room/nosync.so "$hammer" "$volume" <"$1"; }
+
+# Makes the volume anew, as it was kept.
+restore_volume() { cp --sparse=always "$room/volume-before" "$volume"; }
+
+# Runs a script of these lines, in runs of at most 50,000, each of which must be answered ok.
+run_lines() {
+    rm -f "$room"/part-*
+    split -l 50000 - "$room/part-"
+    for part in "$room"/part-*; do
+        run_unsynced "$part" >"$room/out" || stop "a run ended with status $?"
+        [ "$(grep -c ' ok' "$room/out")" -eq "$(wc -l <"$part")" ] || stop "not each line of $part was answered"
+    done
+}
+
+# The time of some words, less that of others, each after $1, into $seconds.
+time_beyond() {
+    local first
+    least_after "$1" "${@:2:2}"
+    first=$best
+    least_after "$1" "${@:4:2}"
+    seconds=$(awk -v a="$best" -v b="$first" 'BEGIN { printf "%.3f", a - b }')
+}
+
+# How many bytes and syncs the words make, as strace counts them.
+count_calls() {
+    command -v strace >/dev/null || { echo 'unknown, without strace'; return; }
+    strace -f -s 0 -e trace=write,pwrite64,fsync,fdatasync -o "$room/trace" "$@" >"$room/out" 2>"$room/err" ||
+        stop "$*: failed under strace"
+    awk '
+        / (write|pwrite64)\([12],/ { next }
+        / (write|pwrite64)\(/ && match($0, /= [0-9]+$/) { bytes += substr($0, RSTART + 2); writes++ }
+        / f(data)?sync\(/ { syncs++ }
+        END { printf "%d writes of %d bytes, %d syncs\n", writes, bytes, syncs }' "$room/trace"
+}

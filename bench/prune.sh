@@ -9,28 +9,15 @@
 cc=${CC:-cc}
 "$cc" -O2 -o "$room/sqlite_prune" "$top/bench/sqlite_prune.c" -lsqlite3 2>"$room/err" ||
     stop "the program over SQLite was not built: is libsqlite3-dev there?"
-echo 'int fsync(int file) { return -(file < 0); } int fdatasync(int file) { return -(file < 0); }' |
-    "$cc" -O2 -shared -fPIC -o "$room/nosync.so" -x c - 2>"$room/err" || stop 'the syncs that do nothing were not built'
+build_nosync
 prepare
 hammer=$top/crates/hm_shell/out/hm_shell
 base=$room/base
 : >"$room/nothing"
 echo 'prune-everything /' >"$room/prune"
 
-over() { LD_PRELOAD=$room/nosync.so "$hammer" "$volume" <"$1"; }
 sqlite() { "$room/sqlite_prune" "$base" "$1"; }
-restore() { cp --sparse=always "$room/volume-before" "$volume"; }
 restore_base() { rm -f "$base"*; cp "$room/table-before" "$base"; }
-
-# Runs a script of these lines, in runs of at most 50,000, each of which must be answered ok.
-run_lines() {
-    rm -f "$room"/part-*
-    split -l 50000 - "$room/part-"
-    for part in "$room"/part-*; do
-        over "$part" >"$room/out" || stop "a run ended with status $?"
-        [ "$(grep -c ' ok' "$room/out")" -eq "$(wc -l <"$part")" ] || stop "not each line of $part was answered"
-    done
-}
 
 # A volume of so many files, each an inode and an entry, of which each second one is removed; and the table beside it.
 make_both() {
@@ -43,32 +30,11 @@ make_both() {
     cp "$base" "$room/table-before"
 }
 
-# The time of some words, less that of others, each after $1, into $seconds.
-time_beyond() {
-    local first
-    least_after "$1" "${@:2:2}"
-    first=$best
-    least_after "$1" "${@:4:2}"
-    seconds=$(awk -v a="$best" -v b="$first" 'BEGIN { printf "%.3f", a - b }')
-}
-
-# How many bytes and syncs the words make, as strace counts them.
-count_calls() {
-    command -v strace >/dev/null || { echo 'unknown, without strace'; return; }
-    strace -f -s 0 -e trace=write,pwrite64,fsync,fdatasync -o "$room/trace" "$@" >"$room/out" 2>"$room/err" ||
-        stop "$*: failed under strace"
-    awk '
-        / (write|pwrite64)\([12],/ { next }
-        / (write|pwrite64)\(/ && match($0, /= [0-9]+$/) { bytes += substr($0, RSTART + 2); writes++ }
-        / f(data)?sync\(/ { syncs++ }
-        END { printf "%d writes of %d bytes, %d syncs\n", writes, bytes, syncs }' "$room/trace"
-}
-
 printf '%-10s %10s %10s %7s\n' removed hammer SQLite ratio
 once=
 for files in 100000 200000; do
     make_both "$files"
-    time_beyond restore over "$room/nothing" over "$room/prune"
+    time_beyond restore_volume run_unsynced "$room/nothing" run_unsynced "$room/prune"
     mine=$seconds
     tail -n 1 "$room/out" | grep -q ' ok 0x[0-9a-f]* done$' || stop 'the prune did not end with done'
     time_beyond restore_base sqlite open sqlite prune
@@ -76,7 +42,7 @@ for files in 100000 200000; do
     awk -v n="$files" -v a="$mine" -v b="$seconds" 'BEGIN { printf "%-10d %8s s %8s s %7.2f\n", n, a, b, a / b }'
     if [ -z "$once" ]; then
         once=$mine
-        restore
+        restore_volume
         # shellcheck disable=SC2016
         calls=$(count_calls bash -c '"$0" "$1" <"$2"' "$hammer" "$volume" "$room/prune")
         restore_base
@@ -96,9 +62,9 @@ for count in 10 60000; do
     "$hammer" "$volume" --newfs 200 <"$room/nothing" || stop 'no volume'
     awk -v n="$count" 'BEGIN { for (i = 0; i < n; i++) printf "pfs-master /p%05d 00000000000000aa\n", i }' | run_lines
     cp --sparse=always "$volume" "$room/volume-before"
-    time_beyond restore over "$room/nothing" over "$room/first"
+    time_beyond restore_volume run_unsynced "$room/nothing" run_unsynced "$room/first"
     first=$seconds
-    time_beyond restore over "$room/first" over "$room/later"
+    time_beyond restore_volume run_unsynced "$room/first" run_unsynced "$room/later"
     awk -v n="$count" -v a="$first" -v b="$seconds" -v m="$later" \
         'BEGIN { printf "%-10d %9.0f µs %9.1f µs\n", n, (a > 0) ? a * 1e6 : 0, b * 1e6 / m }'
 done
