@@ -56,7 +56,8 @@ impl Relocation {
     }
 
     /// One unit, within an open call of the store: a payload with all elements that refer to it moves,
-    /// or a node of the tree; or elements of the choice are collected. It is done where nothing refers
+    /// or a node of the tree; or elements of the choice are collected; or, where no payload lies there,
+    /// the unit turns to the nodes, of which the next ones move one each. It is done where nothing refers
     /// into the choice, and nothing is live there. `NoSpace` where the zone of what is to move lacks its
     /// reserve and no big-block is free. `NoMemory` also where no call is open, or something was given
     /// back in the open one, or bytes are live in the choice to which nothing refers: only a store that
