@@ -121,7 +121,8 @@ module _ (root to : ℕ) (node : Node) where
       → BothTell p1 p2 (HasAdded to node) → BothTell p2 p3 (HasLost root) → ChangesTree (λ es. es) key Leaves (λ _. Unit {0}) p0 p3 root to
   root_moves key p0 p1 p2 p3 same here spot added lost = by_told p0 p2 p3 here
       (subst (λ (p : Option PageMap). BothTell p p2 (HasAdded to node)) same added) lost where
-        by_told : (p q r : Option PageMap) → IfSome p (λ map. SpellsAt map (root_place root) node) → BothTell p q (HasAdded to node) → BothTell q r (HasLost root)
+        by_told : (p q r : Option PageMap) → IfSome p (λ map. SpellsAt map (root_place root) node) → BothTell p q (HasAdded to node)
+            → BothTell q r (HasLost root)
             → ChangesTree (λ es. es) key Leaves (λ _. Unit {0}) p r root to
         by_told None q r here added lost = tt
         by_told (Some old) None r here added lost = absurd added

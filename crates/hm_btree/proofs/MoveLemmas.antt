@@ -19,7 +19,8 @@ use Rattle.hm_node.specs.declared.node.Node.{Node}
 use Rattle.hm_node.specs.declared.node.Node.TheVariants.{Inner as inner_node}
 use Rattle.hm_search.specs.Place.{IsInside, FitsCount}
 use Rattle.hm_search.specs.Search.{holder_place}
-use Rattle.hm_search.specs.Tree.{node_at, elements_in, mark_in, reaches, next_left, child_place, children_of, height_of, root_place, IsTree, IsStoredTree, elements_of, mark_of}
+use Rattle.hm_search.specs.Tree.{node_at, elements_in, mark_in, reaches, next_left, child_place, children_of, height_of, root_place, IsTree}
+use Rattle.hm_search.specs.Tree.{IsStoredTree, elements_of, mark_of}
 use Rattle.hm_search.specs.declared.subtree.Parent.{Parent}
 use Rattle.hm_search.specs.declared.subtree.Subtree.{Subtree}
 use Rattle.hm_search.proofs.ChildLemmas.{IsChildAt, begins_before, place_is}

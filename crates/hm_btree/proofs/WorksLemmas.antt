@@ -1,5 +1,6 @@
 -- Calls below a node, where the pages are told.
-use Rattle.std.proofs.Common.{◌≡◌, Bool, true, false, refl, true≢false, ℕ, zero, suc, List, ◌∷◌, ◌++◌, length, take, drop, sym, ap, subst, ◌∙◌, arith, max, Some, None}
+use Rattle.std.proofs.Common.{◌≡◌, Bool, true, false, refl, true≢false, ℕ, zero, suc, List, ◌∷◌, ◌++◌, length, take, drop, sym, ap, subst, ◌∙◌, arith}
+use Rattle.std.proofs.Common.{max, Some, None}
 use Rattle.std.specs.Prelude.{Option, IsSome, is_some, IfSome, slice_get}
 use Rattle.hm_types.specs.Elements.{Key}
 use Rattle.hm_fields.specs.Pages.{PageMap}

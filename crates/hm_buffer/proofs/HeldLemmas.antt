@@ -37,7 +37,8 @@ pub part_same : (xs ys : List ℕ) (p n : ℕ) → length ys ≡ length xs
     → slice_range ys p (p + n) ≡ slice_range xs p (p + n)
 part_same xs ys p n sized same =
     ext_get_or 0 (slice_range ys p (p + n)) (slice_range xs p (p + n)) (grind (arith, places, sized))
-    (λ i below. let here : slice_index ys (p + i) ≡ slice_index xs (p + i) = same (p + i) (grind (arith, places, sized)) (omega arith) (grind (arith, places, sized)) in
+    (λ i below. let here : slice_index ys (p + i) ≡ slice_index xs (p + i) =
+    same (p + i) (grind (arith, places, sized)) (omega arith) (grind (arith, places, sized)) in
     grind (arith, places, here, sized))
 
 -- a write leaves a page that has no byte of its range

@@ -109,10 +109,11 @@ trees_do other call answered es es' of_trees does = does
 
 -- where nothing is opened, what has an effect changes a tree
 pub effect_is_change : (command : Command) (reply : Reply) → is_prune command ≡ false → is_effect command reply ≡ is_change command reply
-effect_is_change command reply none = ap (λ (b : Bool). b && (if is_refusal reply then false else true)) (by (is_tree_call command) (is_prune command) none) where
-  by : (tree prune : Bool) → prune ≡ false → (tree || prune) ≡ tree
-  by true prune is = refl
-  by false prune is = is
+effect_is_change command reply none = ap (λ (b : Bool). b && (if is_refusal reply then false else true))
+    (by (is_tree_call command) (is_prune command) none) where
+      by : (tree prune : Bool) → prune ≡ false → (tree || prune) ≡ tree
+      by true prune is = refl
+      by false prune is = is
 
 -- a refusal has none
 pub no_effect : (command : Command) (reply : Reply) → is_refusal reply ≡ true → is_effect command reply ≡ false

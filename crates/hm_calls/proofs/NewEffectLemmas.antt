@@ -68,7 +68,8 @@ puts_young Slave pfs shared i es es' puts x has = elim ((puts.elements x).0 has)
   | inr old ↦ inr old
 ]
 
-puts_elsewhere : (new : NewSystem) (pfs shared i : ℕ) (es es' : List FullElement) → PutsNewSystem new pfs shared i es es' → (t : ℕ) (s : Subject) (bytes : List ℕ)
+puts_elsewhere : (new : NewSystem) (pfs shared i : ℕ) (es es' : List FullElement) → PutsNewSystem new pfs shared i es es'
+    → (t : ℕ) (s : Subject) (bytes : List ℕ)
     → pfs_of s.localization ≢ pfs → Counts es t s bytes → Counts es' t s bytes
 puts_elsewhere Master pfs shared i es es' puts t s bytes differ counts = (puts.elsewhere t s bytes differ).1 counts
 puts_elsewhere Slave pfs shared i es es' puts t s bytes differ counts = (puts.elsewhere t s bytes differ).1 counts

@@ -60,7 +60,8 @@ in_numbers (x ∷ xs) n s is = by (eqb x.number n) refl (in_numbers xs n s) wher
   by true here rest = rw here refl
   by false not rest = rw not (rest (rw not at is))
 
-module _ (numbers : ℕ) (es : List FullElement) (volume : Volume) (view : View) (shows : ShowsAs es volume view) (counted : HasKnownNumbers numbers es volume) where
+module _ (numbers : ℕ) (es : List FullElement) (volume : Volume) (view : View) (shows : ShowsAs es volume view)
+    (counted : HasKnownNumbers numbers es volume) where
   -- each number below the least unused one is used
   used_below : (pfs : ℕ) → IsFirstUnused es numbers pfs → (n : ℕ) → n < pfs → HasSystem volume n
   used_below pfs first n less = elim (cases_lt n numbers) [

@@ -93,7 +93,8 @@ module _ {S : Type 0} {elements_of : S → Option (List Element)} {mark_of : S �
         → InScenes hash course (elements_of start) (extents_of start) (λ scene. (busy : Option ℕ)
         → AnswersAll (place_checks (call_in hash (system_command new word shared) (Parts parts ∷ []) busy scene)) (Ok x))
         → TellsLast {T = U} (Err stopped)
-        → OfRefusal (IsRefusedTo hash id numbers (system_command new word shared) (elements_of start) (extents_of start) (room_of start) (free_of start)) stopped
+        → OfRefusal (IsRefusedTo hash id numbers (system_command new word shared) (elements_of start) (extents_of start) (room_of start)
+        (free_of start)) stopped
     refused_last {stopped = stopped} asked places told =
         last_refuses asked hash (room_of start) (free_of start) numbers (elements_of start) (extents_of start) stopped places (tells_last told)
 

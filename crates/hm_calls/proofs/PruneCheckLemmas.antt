@@ -251,7 +251,8 @@ left_is call pfs was ids left ranges finds is small =
     ∙ ap (λ (r : List (ℕ × ℕ)). pruned r (kept_ids call)) finds.for.3
 
 -- too many are
-pub many_refused : (call : Call) (word : List ℕ) (room : ℕ → ℕ) (free : ℕ) (stand : Stand) (list : List FullElement) (was : PfsRecord) (ids : List Id) (count : ℕ)
+pub many_refused : (call : Call) (word : List ℕ) (room : ℕ → ℕ) (free : ℕ) (stand : Stand) (list : List FullElement) (was : PfsRecord) (ids : List Id)
+    (count : ℕ)
     → call.command ≡ Prune word → ComesTo Follows room free stand list call → IsDirectory stand → IsPfsRecord was
     → (finds : FindsKept call stand.at.pfs.0 was ids) → (length ids == 0) ≡ false → IsTooMany (IsCut was.retention ids (greatest (numbers ids))) count
     → first_refusal (later_checks call) ≡ Some (TooManyIntervals count)
@@ -338,7 +339,8 @@ pub present_none : (hash : List ℕ → ℕ) (id pfs : ℕ) (es : Option (List E
     → OnBalanced es xs (λ lists. IsRecordNow lists pfs None)
     → OnCalls hash id es xs (λ list call. HasRecordAfter (system_after Present call) call.volume pfs None list)
 present_none hash id pfs es xs content told =
-    calls_so hash id es xs (λ list call. HasRecordAfter (system_after Present call) call.volume pfs None list) (λ lists. IsRecordNow lists pfs None) content told
+    calls_so hash id es xs (λ list call. HasRecordAfter (system_after Present call) call.volume pfs None list) (λ lists. IsRecordNow lists pfs None)
+    content told
     (λ lists call own now is. record { counts = now; none = system_gone lists call.volume call.view pfs is.shows now })
 
 -- it has one, and this is left of its retention

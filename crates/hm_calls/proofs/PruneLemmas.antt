@@ -38,7 +38,8 @@ use Rattle.hm_calls.specs.Call.{IsCall, OnCalls}
 use Rattle.hm_calls.specs.Due.{refusal_over, space_for, space_left}
 use Rattle.hm_calls.specs.Places.{ask_kind}
 use Rattle.hm_calls.specs.Possible.{IsGiven, IsNoSpace}
-use Rattle.hm_calls.specs.Prunes.{CutsEach, GivesOpening, HasRecordAfter, IsRecordAfter, IsRefusedBy, OpeningLeadsTo, SetsTo, command_of, kept_by, mode_by, system_after}
+use Rattle.hm_calls.specs.Prunes.{CutsEach, GivesOpening, HasRecordAfter, IsRecordAfter, IsRefusedBy, OpeningLeadsTo, SetsTo, command_of, kept_by}
+use Rattle.hm_calls.specs.Prunes.{mode_by, system_after}
 use Rattle.hm_calls.specs.Replies.{IsRefusalOf}
 use Rattle.hm_calls.specs.Stop.{Answers, Decides, IfRefused, OfRefusal, TellsRefusal}
 use Rattle.hm_calls.specs.Systems.{ComesTo, MayRefuse, PassesEarly, later_checks}
@@ -160,7 +161,8 @@ module _ (word : List ℕ) (room : ℕ → ℕ) (free : ℕ) (stand : Stand) (ha
   tells_stopped result stopped is told =
       subst (λ (r : Result (Option PfsRecord) Stop). OnCalls hash id es xs (Tells Snapshots word room free stand r)) (sym is)
       (calls_both hash id es xs (Names word room free stand (Err stopped)) (Names word room free stand (Err stopped))
-      (Tells Snapshots word room free stand (Err stopped)) (λ list call of_call one two asks comes. (by_stop stopped call (one asks comes).0, tt)) told told) where
+      (Tells Snapshots word room free stand (Err stopped)) (λ list call of_call one two asks comes. (by_stop stopped call (one asks comes).0, tt))
+      told told) where
         by_stop : (s : Stop) (call : Call) → Answers {T = PfsRecord} (first_refusal (later_checks call)) (Err s)
             → Answers {T = Option PfsRecord} (first_refusal (later_checks call)) (Err s)
         by_stop (Refused reply) call refuses = refuses

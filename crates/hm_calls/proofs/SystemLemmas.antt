@@ -1,5 +1,6 @@
 -- Where the calls that speak of a pseudo file system come, and what `pfs-status` answers there.
-use Rattle.std.proofs.Common.{◌≡◌, ℕ, suc, ◌+◌, ◌-◌, ◌^◌, ◌≤◌, List, [], ◌∷◌, ◌++◌, Bool, true, false, cond, length, Option, Some, None, Result, Ok, Err, refl, sym, ap, subst, ◌∙◌, arith}
+use Rattle.std.proofs.Common.{◌≡◌, ℕ, suc, ◌+◌, ◌-◌, ◌^◌, ◌≤◌, List, [], ◌∷◌, ◌++◌, Bool, true, false, cond, length, Option, Some, None, Result, Ok}
+use Rattle.std.proofs.Common.{Err, refl, sym, ap, subst, ◌∙◌, arith}
 use Rattle.std.specs.Prelude.{◌==◌, IfOk, IfSome, find}
 use Rattle.std.specs.List.{AllZip, Contains}
 use Rattle.std.specs.Option.{option_map_or}
@@ -21,7 +22,8 @@ use Rattle.hm_cursor.specs.Told.{IsRecordNow, Lists, OnBalanced, fulls}
 use Rattle.hm_model.specs.Answer.{is_master, record_of}
 use Rattle.hm_model.specs.Call.{Call, first_site, site_in, site_system}
 use Rattle.hm_model.specs.Caused.{IsPossible, number_of, possible}
-use Rattle.hm_model.specs.Due.{Check, a_dir, accepted, early_checks, first_refusal, good_path, has_id, has_snapshots, intervals_left, no_future, past_stays, refuse_if, walks}
+use Rattle.hm_model.specs.Due.{Check, a_dir, accepted, early_checks, first_refusal, good_path, has_id, has_snapshots, intervals_left, no_future}
+use Rattle.hm_model.specs.Due.{past_stays, refuse_if, walks}
 use Rattle.hm_model.specs.Sites.{Parsed, Parts, ReadsWords, Use, Walks, at_end}
 use Rattle.hm_model.specs.View.{Position as Place, View}
 use Rattle.hm_model.specs.Volume.{PseudoFileSystem, Role, Volume, Master, Slave, system_of}

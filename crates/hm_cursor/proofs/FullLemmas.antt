@@ -1,5 +1,6 @@
 -- Elements with their payloads, as sets, after one was added with a new extent, and after one was closed.
-use Rattle.std.proofs.Common.{◌≡◌, ℕ, ◌+◌, ◌≤◌, List, [], ◌∷◌, true, false, Bool, Option, Some, None, refl, ap, sym, subst, ◌∙◌, inl, inr, arith, nat_eq, nat_lt, length}
+use Rattle.std.proofs.Common.{◌≡◌, ℕ, ◌+◌, ◌≤◌, List, [], ◌∷◌, true, false, Bool, Option, Some, None, refl, ap, sym, subst, ◌∙◌, inl, inr, arith}
+use Rattle.std.proofs.Common.{nat_eq, nat_lt, length}
 use Rattle.std.specs.Prelude.{◌⊎◌, if◌then◌else◌}
 use Rattle.std.specs.List.{AllByRecursion, Contains}
 use Rattle.std.specs.List.Sorted.{IsStrictlySortedBy}
@@ -128,7 +129,8 @@ extent_stays low at x new (y ∷ xs) some apart found =
 abbrev with_bytes : Element → List ℕ → FullElement
 with_bytes e bytes = record (full_of [] e) { bytes = bytes }
 
-module _ (e : Element) (es : List Element) (xs ys : List Extent) (given : List ℕ) (placed : PlacesAt e.payload given xs ys) (some : 1 ≤ length given) (long : e.len ≡ length given) (live : AreExtents ys) (balanced : IsBalanced es xs) where
+module _ (e : Element) (es : List Element) (xs ys : List Extent) (given : List ℕ) (placed : PlacesAt e.payload given xs ys) (some : 1 ≤ length given)
+    (long : e.len ≡ length given) (live : AreExtents ys) (balanced : IsBalanced es xs) where
   -- the elements that were there have their payloads still
   full_stays : (x : Element) → IsHeld xs x → full_of ys x ≡ full_of xs x
   full_stays x held = by_extent (extent_at x.payload xs) refl held where

@@ -22,7 +22,8 @@ use Rattle.hm_cursor.proofs.FullLemmas.{adds_placed, balanced_closed, closed_has
 use Rattle.hm_cursor.proofs.SearchLemmas.{one_at_key}
 
 -- what became of balanced lists that are told: others, balanced too, with this change of the full elements
-abbrev pub Became : (List FullElement → List FullElement → Type 0) → Option (List Element) → Option (List Extent) → Option (List Element) → Option (List Extent) → Type 0
+abbrev pub Became : (List FullElement → List FullElement → Type 0) → Option (List Element) → Option (List Extent) → Option (List Element)
+    → Option (List Extent) → Type 0
 Became Change es xs es' xs' =
     IfSome (content_of es xs) (λ was. IsBalanced was.0 was.1
     → IsSomeAnd (content_of es' xs') (λ now. IsBalanced now.0 now.1 × Change (fulls was) (fulls now)))
@@ -211,20 +212,21 @@ pub placed_closed : (this : Element) (i : ℕ) (es es' : Option (List Element)) 
     → IfSome es (λ list. element_at (element_key this) list ≡ Some this) → Placed es xs es' xs'
 placed_closed this i None es' xs xs' list others there = tt
 placed_closed this i (Some es) es' None xs' list others there = tt
-placed_closed this i (Some es) es' (Some xs) xs' list others there = rw (list, others) (record { extents = refl; elements = by_test (this.base.delete == 0) }) where
-  by_test : (b : Bool) (x : Element) → Contains (if b then with_delete (element_key this) i es else es) x
-      → (e : Element) × Contains es e × (element_key x ≡ element_key e) × (x.payload ≡ e.payload) × (x.len ≡ e.len)
-  by_test false x has = (x, has, refl, refl, refl)
-  by_test true x has = elim (closed_has (element_key this) i this x es there has) [
-    | inl old ↦ (x, old, refl, refl, refl)
-    | inr new ↦ (
-      this,
-      (element_at-has (element_key this) this es there).0,
-      ap element_key new,
-      ap (λ (e : Element). e.payload) new,
-      ap (λ (e : Element). e.len) new,
-    )
-  ]
+placed_closed this i (Some es) es' (Some xs) xs' list others there =
+    rw (list, others) (record { extents = refl; elements = by_test (this.base.delete == 0) }) where
+      by_test : (b : Bool) (x : Element) → Contains (if b then with_delete (element_key this) i es else es) x
+          → (e : Element) × Contains es e × (element_key x ≡ element_key e) × (x.payload ≡ e.payload) × (x.len ≡ e.len)
+      by_test false x has = (x, has, refl, refl, refl)
+      by_test true x has = elim (closed_has (element_key this) i this x es there has) [
+        | inl old ↦ (x, old, refl, refl, refl)
+        | inr new ↦ (
+          this,
+          (element_at-has (element_key this) this es there).0,
+          ap element_key new,
+          ap (λ (e : Element). e.payload) new,
+          ap (λ (e : Element). e.len) new,
+        )
+      ]
 
 -- ---- the version that was replaced is closed
 
@@ -267,7 +269,8 @@ module _ (at : Key) (i : ℕ) (e : FullElement) where
           closed_among es new xs new_xs open' (subst (λ (o : Option (List Element)). IfSome o IsContent) list content) (became balanced).1
           (λ is. absurd (omega (arith, older, ap (λ (k : Key). k.create) is)))
 
-pub renewed_closed : {S A E : Type 0} (elements_of : S → Option (List Element)) (extents_of : S → Option (List Extent)) (at : Key) (base : Base) (bytes : List ℕ)
+pub renewed_closed : {S A E : Type 0} (elements_of : S → Option (List Element)) (extents_of : S → Option (List Extent)) (at : Key) (base : Base)
+    (bytes : List ℕ)
     (old mid new : S) (result : Result A E) → elements_of mid ≡ option_map (with_delete at base.create) (elements_of old)
     → IfSome (elements_of old) (IsOpenAt at) → IfSome (elements_of mid) IsContent → is_some (extents_of mid) ≡ is_some (elements_of mid)
     → OnOk result (is_some (elements_of new) ≡ is_some (elements_of mid)) → Balanced (elements_of mid) (extents_of mid)

@@ -19,7 +19,8 @@ use Rattle.hm_records.specs.View.{IsViewOf}
 use Rattle.hm_records.specs.declared.inode.Inode.{Inode}
 use Rattle.hm_records.specs.declared.kind.TheConstants.{DIRECTORY, PFS_LINK}
 use Rattle.hm_volume.specs.Found.{IsFoundBy, IsMadeBy}
-use Rattle.hm_dirs.specs.Walk.{ComesOut, EndsAt, WalkGoesOn, Scene, IsDrawn, IsOn, IsRead, IsTaken, IsTold, found_at, is_directory_by, link_by, place_of, reply_of, when_of}
+use Rattle.hm_dirs.specs.Walk.{ComesOut, EndsAt, WalkGoesOn, Scene, IsDrawn, IsOn, IsRead, IsTaken, IsTold, found_at, is_directory_by, link_by}
+use Rattle.hm_dirs.specs.Walk.{place_of, reply_of, when_of}
 use Rattle.hm_dirs.specs.declared.position.Lost.{Lost}
 use Rattle.hm_dirs.specs.declared.position.Lost.TheVariants.{NotFound, NotDir, NotRetained}
 use Rattle.hm_dirs.specs.declared.position.Position.{Position}

@@ -1,5 +1,6 @@
 -- How walks come out over what a store tells.
-use Rattle.std.proofs.Common.{◌≡◌, ℕ, ◌^◌, arith, Bool, true, false, List, [], ◌∷◌, ◌++◌, Option, Some, None, Result, Ok, Err, refl, sym, ap, subst, ◌∙◌, inl, inr, unwrap_or}
+use Rattle.std.proofs.Common.{◌≡◌, ℕ, ◌^◌, arith, Bool, true, false, List, [], ◌∷◌, ◌++◌, Option, Some, None, Result, Ok, Err, refl, sym, ap, subst}
+use Rattle.std.proofs.Common.{◌∙◌, inl, inr, unwrap_or}
 use Rattle.std.specs.Prelude.{◌||◌, IfOk, IfSome, option_map}
 use Rattle.hm_types.specs.Elements.{FullElement}
 use Rattle.hm_types.specs.Intervals.{Keeps, open_end}

@@ -14,11 +14,13 @@ get_or-overwritten_in old place bytes byte within from below = grind (arith, pla
 pub overwritten-none : (old : List ℕ) (place : ℕ) → place ≤ length old → overwritten old place [] ≡ old
 overwritten-none old place within =
     ext_get_or 0 (overwritten old place []) old (length-overwritten old place [] (omega arith))
-    (λ i below. get_or-overwritten_out old place [] i (omega arith) (omega (arith, length-overwritten old place [] (omega arith))) (⊎_elim (λ low. inl low) (λ high. inr (omega arith)) (cases_lt i place)))
+    (λ i below. get_or-overwritten_out old place [] i (omega arith) (omega (arith, length-overwritten old place [] (omega arith)))
+    (⊎_elim (λ low. inl low) (λ high. inr (omega arith)) (cases_lt i place)))
 
 -- one piece more of what is overwritten
 pub overwritten-more : (old : List ℕ) (place : ℕ) (bytes : List ℕ) (done count : ℕ) → place + length bytes ≤ length old → done + count ≤ length bytes
-    → overwritten (overwritten old place (take done bytes)) (place + done) (slice_range bytes done (done + count)) ≡ overwritten old place (take (done + count) bytes)
+    → overwritten (overwritten old place (take done bytes)) (place + done) (slice_range bytes done (done + count)) ≡ overwritten old place
+    (take (done + count) bytes)
 overwritten-more old place bytes done count fits within =
     ext_get_or 0 (overwritten first (place + done) piece) (overwritten old place all) (long ∙ sym whole) (λ i below. each i (omega (arith, long, below)))
   where
@@ -49,7 +51,8 @@ overwritten-more old place bytes done count fits within =
     whole : length (overwritten old place all) ≡ length old
     whole = length-overwritten old place all (omega (arith, both))
 
-    out : (i : ℕ) → i < length old → (i < place) ⊎ (place + done + count ≤ i) → get_or (overwritten first (place + done) piece) i 0 ≡ get_or (overwritten old place all) i 0
+    out : (i : ℕ) → i < length old → (i < place) ⊎ (place + done + count ≤ i)
+        → get_or (overwritten first (place + done) piece) i 0 ≡ get_or (overwritten old place all) i 0
     out i below (inl low) =
         get_or-overwritten_out first (place + done) piece i (omega (arith, kept, range)) (omega (arith, kept)) (inl (omega arith))
         ∙ (get_or-overwritten_out old place (take done bytes) i (omega (arith, front)) below (inl low)
@@ -59,14 +62,16 @@ overwritten-more old place bytes done count fits within =
         ∙ (get_or-overwritten_out old place (take done bytes) i (omega (arith, front)) below (inr (omega (arith, front)))
         ∙ sym (get_or-overwritten_out old place all i (omega (arith, both)) below (inr (omega (arith, both)))))
 
-    early : (i : ℕ) → i < length old → place ≤ i → i < place + done → get_or (overwritten first (place + done) piece) i 0 ≡ get_or (overwritten old place all) i 0
+    early : (i : ℕ) → i < length old → place ≤ i → i < place + done
+        → get_or (overwritten first (place + done) piece) i 0 ≡ get_or (overwritten old place all) i 0
     early i below from to =
         let same : get_or (take done bytes) (i - place) 0 ≡ get_or all (i - place) 0 = grind (arith, places) in
         get_or-overwritten_out first (place + done) piece i (omega (arith, kept, range)) (omega (arith, kept)) (inl to)
         ∙ (get_or-overwritten_in old place (take done bytes) i (omega (arith, front)) from (omega (arith, front))
         ∙ (same ∙ sym (get_or-overwritten_in old place all i (omega (arith, both)) from (omega (arith, both)))))
 
-    late : (i : ℕ) → i < length old → place + done ≤ i → i < place + done + count → get_or (overwritten first (place + done) piece) i 0 ≡ get_or (overwritten old place all) i 0
+    late : (i : ℕ) → i < length old → place + done ≤ i → i < place + done + count
+        → get_or (overwritten first (place + done) piece) i 0 ≡ get_or (overwritten old place all) i 0
     late i below from to =
         let same : get_or piece (i - (place + done)) 0 ≡ get_or all (i - place) 0 = grind (arith, places) in
         get_or-overwritten_in first (place + done) piece i (omega (arith, kept, range)) from (omega (arith, range))

@@ -1,5 +1,6 @@
 -- What several writes of one transfer come to.
-use Rattle.std.proofs.Common.{◌≡◌, ◌⊎◌, inl, inr, ⊎_elim, ℕ, ◌+◌, ◌-◌, ◌<◌, ◌≤◌, List, [], ◌∷◌, ◌++◌, sym, ◌∙◌, ap, subst, arith, length, take, get_or, slice_range, Option, Some, None, IfSome}
+use Rattle.std.proofs.Common.{◌≡◌, ◌⊎◌, inl, inr, ⊎_elim, ℕ, ◌+◌, ◌-◌, ◌<◌, ◌≤◌, List, [], ◌∷◌, ◌++◌, sym, ◌∙◌, ap, subst, arith, length, take}
+use Rattle.std.proofs.Common.{get_or, slice_range, Option, Some, None, IfSome}
 use Rattle.std.proofs.lemmas.List.{places, ext_get_or, get_or-append_right}
 use Rattle.std.proofs.lemmas.Slice.{take-put_mid}
 use borrow.Rule.Slice.PartMut.{put_mid}
@@ -49,7 +50,8 @@ module _ (place : ℕ) (bytes : List ℕ) (past : LeftSince) where
     pub WrittenSoFar-more : Written (place + done) (slice_range bytes done (done + count)) t u → CallElapses (place + done) count middle since t u
         → WrittenSoFar place bytes (done + count) past since s u
     WrittenSoFar-more then time = record {
-      bytes_are = then.bytes_are ∙ (ap (λ bs. overwritten bs (place + done) (slice_range bytes done (done + count))) first.bytes_are ∙ overwritten-more s.bytes place bytes done count fits within);
+      bytes_are = then.bytes_are ∙ (ap (λ bs. overwritten bs (place + done) (slice_range bytes done (done + count))) first.bytes_are
+          ∙ overwritten-more s.bytes place bytes done count fits within);
       unsettled_are = λ byte outside. subst (λ (ranges : List (ℕ × ℕ)). Outside ranges byte) (sym then.unsettled_are)
           (subst (λ (n : ℕ). Outside ((place + done, n) ∷ t.unsettled) byte) (sym range) (narrower byte outside));
       moment_is = then.moment_is ∙ first.moment_is;
@@ -73,7 +75,8 @@ WriteElapses-synced place bytes past middle since s t u fits written first then 
 range-more : (bytes : List ℕ) (place done count : ℕ) → place + (done + count) ≤ length bytes
     → slice_range bytes place (place + done) ++ slice_range bytes (place + done) (place + done + count) ≡ slice_range bytes place (place + (done + count))
 range-more bytes place done count within =
-    ext_get_or 0 (slice_range bytes place (place + done) ++ slice_range bytes (place + done) (place + done + count)) (slice_range bytes place (place + (done + count)))
+    ext_get_or 0 (slice_range bytes place (place + done) ++ slice_range bytes (place + done) (place + done + count))
+    (slice_range bytes place (place + (done + count)))
     (grind (arith, places)) (λ i below. ⊎_elim (λ early. early_byte i early) (λ late. late_byte i (omega (arith, below, both)) late) (cases_lt i done))
   where
     front : length (slice_range bytes place (place + done)) ≡ done
@@ -82,10 +85,12 @@ range-more bytes place done count within =
     both : length (slice_range bytes place (place + done) ++ slice_range bytes (place + done) (place + done + count)) ≡ done + count
     both = grind (arith, places)
 
-    early_byte : (i : ℕ) → i < done → get_or (slice_range bytes place (place + done) ++ slice_range bytes (place + done) (place + done + count)) i 0 ≡ get_or (slice_range bytes place (place + (done + count))) i 0
+    early_byte : (i : ℕ) → i < done → get_or (slice_range bytes place (place + done) ++ slice_range bytes (place + done) (place + done + count)) i
+        0 ≡ get_or (slice_range bytes place (place + (done + count))) i 0
     early_byte i early = grind (arith, places)
 
-    late_byte : (i : ℕ) → i < done + count → done ≤ i → get_or (slice_range bytes place (place + done) ++ slice_range bytes (place + done) (place + done + count)) i 0 ≡ get_or (slice_range bytes place (place + (done + count))) i 0
+    late_byte : (i : ℕ) → i < done + count → done ≤ i → get_or (slice_range bytes place (place + done) ++ slice_range bytes (place + done)
+        (place + done + count)) i 0 ≡ get_or (slice_range bytes place (place + (done + count))) i 0
     late_byte i below late = get_or-append_right _ _ done i 0 front late ∙ grind (arith, places)
 
 -- one piece more is filled in

@@ -1,5 +1,6 @@
 -- The bytes of written pages.
-use Rattle.std.proofs.Common.{◌≡◌, ℕ, ◌+◌, ◌<◌, ◌≤◌, ◌/◌, ◌%◌, List, Option, Some, None, Box, sym, ◌∙◌, ◌⊎◌, inl, inr, ⊎_elim, ◌-◌, take, slice_range, ap, arith, length, get_or, replicate}
+use Rattle.std.proofs.Common.{◌≡◌, ℕ, ◌+◌, ◌<◌, ◌≤◌, ◌/◌, ◌%◌, List, Option, Some, None, Box, sym, ◌∙◌, ◌⊎◌, inl, inr, ⊎_elim, ◌-◌, take, slice_range}
+use Rattle.std.proofs.Common.{ap, arith, length, get_or, replicate}
 use Rattle.std.proofs.lemmas.List.{get_or-replicate, places}
 use Rattle.std.proofs.lemmas.Bool.{cases_lt, cases_eq}
 use Rattle.std.specs.declared.alloc.Global.{Global}
@@ -39,7 +40,8 @@ Overwrites-more before middle after place done count bytes within first then = r
         let at : place + i ≡ place + done + (i - done) = omega arith in
         ap after at ∙ (then.inside (i - done) (omega (arith, whole, range)) ∙ grind (arith, places))
 
-    apart : (byte : ℕ) → (byte < place) ⊎ (place + length (take (done + count) bytes) ≤ byte) → (byte < place + done) ⊎ (place + done + length (slice_range bytes done (done + count)) ≤ byte)
+    apart : (byte : ℕ) → (byte < place) ⊎ (place + length (take (done + count) bytes) ≤ byte)
+        → (byte < place + done) ⊎ (place + done + length (slice_range bytes done (done + count)) ≤ byte)
     apart byte (inl low) = inl (omega arith)
     apart byte (inr high) = inr (omega (arith, whole, range))
 

@@ -1,5 +1,6 @@
 -- How the pages of a disk in memory keep up with its record.
-use Rattle.std.proofs.Common.{◌≡◌, refl, Bool, true, false, if◌then◌else◌, ◌⊎◌, inl, inr, ⊎_elim, ℕ, ◌+◌, ◌-◌, ◌<◌, ◌≤◌, List, [], ◌∷◌, ◌++◌, sym, ◌∙◌, ap, arith, length, get_or, slice_range}
+use Rattle.std.proofs.Common.{◌≡◌, refl, Bool, true, false, if◌then◌else◌, ◌⊎◌, inl, inr, ⊎_elim, ℕ, ◌+◌, ◌-◌, ◌<◌, ◌≤◌, List, [], ◌∷◌, ◌++◌, sym}
+use Rattle.std.proofs.Common.{◌∙◌, ap, arith, length, get_or, slice_range}
 use Rattle.std.proofs.lemmas.List.{places, length-replicate, get_or-replicate, ext_get_or}
 use Rattle.std.proofs.lemmas.Bool.{cases_lt}
 use Rattle.hm_disk.specs.Crash.{Told, MayLeave}

@@ -1,6 +1,8 @@
 -- What a number put into a field changes, and what it leaves.
-use Rattle.std.proofs.Common.{◌≡◌, ℕ, zero, suc, ◌+◌, ◌-◌, ◌^◌, ◌<◌, ◌≤◌, inl, inr, List, [], ◌∷◌, ◌++◌, length, take, drop, replicate, slice_index, slice_set, refl, sym, ap, ◌∙◌, arith, length-append, length-drop, length-take, append-nil, add-suc, add-zero}
-use Rattle.std.proofs.lemmas.List.{drop_at, drop_all, take-append-drop, take-set, drop-set, drop-drop, length-take-le, length-replicate, get_or-take, get_or-drop, get_or_append_left, get_or-append_right, take-append-le}
+use Rattle.std.proofs.Common.{◌≡◌, ℕ, zero, suc, ◌+◌, ◌-◌, ◌^◌, ◌<◌, ◌≤◌, inl, inr, List, [], ◌∷◌, ◌++◌, length, take, drop, replicate, slice_index}
+use Rattle.std.proofs.Common.{slice_set, refl, sym, ap, ◌∙◌, arith, length-append, length-drop, length-take, append-nil, add-suc, add-zero}
+use Rattle.std.proofs.lemmas.List.{drop_at, drop_all, take-append-drop, take-set, drop-set, drop-drop, length-take-le, length-replicate, get_or-take}
+use Rattle.std.proofs.lemmas.List.{get_or-drop, get_or_append_left, get_or-append_right, take-append-le}
 use Rattle.std.specs.List.{between}
 use borrow.Rule.Slice.PartMut.{put_mid, mid_of}
 use Rattle.std.specs.Int.{byte_at as low_byte}

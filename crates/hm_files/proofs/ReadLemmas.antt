@@ -1,5 +1,6 @@
 -- What is read of a file, where a store tells its content.
-use Rattle.std.proofs.Common.{◌≡◌, ℕ, ◌+◌, ◌-◌, ◌^◌, ◌<◌, ◌≤◌, List, ◌++◌, Option, None, Some, Result, Ok, Err, ap, length, min, replicate, subst, sym, take, arith, inl, inr, length-append}
+use Rattle.std.proofs.Common.{◌≡◌, ℕ, ◌+◌, ◌-◌, ◌^◌, ◌<◌, ◌≤◌, List, ◌++◌, Option, None, Some, Result, Ok, Err, ap, length, min, replicate, subst}
+use Rattle.std.proofs.Common.{sym, take, arith, inl, inr, length-append}
 use Rattle.std.specs.Prelude.{IfOk, IfSome, slice_index}
 use Rattle.std.proofs.lemmas.Bool.{cases_lt}
 use Rattle.std.proofs.lemmas.List.{get_or_append_left, get_or-append_right}

@@ -1,5 +1,6 @@
 -- The guard over a call of the flusher, where the disk tells.
-use Rattle.std.proofs.Common.{◌≡◌, ◌≢◌, ℕ, Bool, true, false, List, [], length, refl, sym, ◌∙◌, ap, subst, arith, is_some, Option, Some, None, IfSome, IfOk, OnOk, OnErr, Result, Ok, Err, ◌∷◌}
+use Rattle.std.proofs.Common.{◌≡◌, ◌≢◌, ℕ, Bool, true, false, List, [], length, refl, sym, ◌∙◌, ap, subst, arith, is_some, Option, Some, None, IfSome}
+use Rattle.std.proofs.Common.{IfOk, OnOk, OnErr, Result, Ok, Err, ◌∷◌}
 use Rattle.std.proofs.lemmas.Bool.{true≢false}
 use Rattle.hm_types.specs.declared.fault.Fault.{Fault}
 use Rattle.hm_types.specs.declared.id.Id.{Id}

@@ -1,5 +1,6 @@
 -- A store of two pages before and after its group is frozen: one that was committed, and one that was not.
-use Rattle.std.proofs.Common.{◌≡◌, ◌≢◌, ◌⊎◌, inl, inr, ⊎_elim, ℕ, zero, suc, ◌+◌, ◌-◌, ◌<◌, ◌&&◌, ◌||◌, Bool, true, false, List, [], ◌∷◌, is_some, length, refl, sym, ◌∙◌, ap, subst, arith, nat_eq, Option, Some, None, unwrap_or, if◌then◌else◌}
+use Rattle.std.proofs.Common.{◌≡◌, ◌≢◌, ◌⊎◌, inl, inr, ⊎_elim, ℕ, zero, suc, ◌+◌, ◌-◌, ◌<◌, ◌&&◌, ◌||◌, Bool, true, false, List, [], ◌∷◌, is_some}
+use Rattle.std.proofs.Common.{length, refl, sym, ◌∙◌, ap, subst, arith, nat_eq, Option, Some, None, unwrap_or, if◌then◌else◌}
 use Rattle.std.specs.Set.{is_member}
 use Rattle.std.specs.List.Sorted.{IsStrictlyIncreasing}
 use Rattle.std.proofs.lemmas.Bool.{true≢false}

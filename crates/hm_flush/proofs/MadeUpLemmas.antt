@@ -1,5 +1,6 @@
 -- Disks on which a guard holds.
-use Rattle.std.proofs.Common.{◌≡◌, inl, inr, ℕ, ◌+◌, ◌-◌, ◌*◌, ◌≤◌, List, [], ◌∷◌, ◌++◌, length, length-append, get_or, sym, ◌∙◌, ap, subst, arith, replicate, slice_index, slice_range}
+use Rattle.std.proofs.Common.{◌≡◌, inl, inr, ℕ, ◌+◌, ◌-◌, ◌*◌, ◌≤◌, List, [], ◌∷◌, ◌++◌, length, length-append, get_or, sym, ◌∙◌, ap, subst, arith}
+use Rattle.std.proofs.Common.{replicate, slice_index, slice_range}
 use Rattle.std.proofs.lemmas.List.{length-replicate, get_or-replicate}
 use Rattle.hm_types.specs.declared.limits.TheConstants.{BIGBLOCK_BYTES, PAGE_BYTES}
 use Rattle.hm_types.specs.Offset.{byte_of}
@@ -91,7 +92,8 @@ module _ (header : Header) (page : List ℕ) (is : IsHeader header) (sized : len
 
   second : TakesPart (second_slot made-up) → ⊥
   second takes =
-      let here : slice_index (slot_in made-up 1) GATE_PLACE ≡ slice_index made-up (slot_place 1 + 16383) = slot-byte 1 made-up 16383 (omega arith) (omega arith) in
+      let here : slice_index (slot_in made-up 1) GATE_PLACE ≡ slice_index made-up (slot_place 1 + 16383) =
+      slot-byte 1 made-up 16383 (omega arith) (omega arith) in
       absurd (omega (arith, here, gate, takes.open_gate))
 
   pub counts : HasHeader made-up header 0

@@ -1,5 +1,6 @@
 -- How each stage brings a flush on: what always holds of it goes on, and one stage less is left.
-use Rattle.std.proofs.Common.{◌≡◌, ◌≢◌, ℕ, zero, suc, ◌+◌, ◌-◌, ◌*◌, ◌<◌, ◌≤◌, Bool, true, false, List, Option, Some, None, is_some, length, nat_eq, nat_lt, slice_index, refl, sym, ◌∙◌, ap, subst, arith, if◌then◌else◌}
+use Rattle.std.proofs.Common.{◌≡◌, ◌≢◌, ℕ, zero, suc, ◌+◌, ◌-◌, ◌*◌, ◌<◌, ◌≤◌, Bool, true, false, List, Option, Some, None, is_some, length, nat_eq}
+use Rattle.std.proofs.Common.{nat_lt, slice_index, refl, sym, ◌∙◌, ap, subst, arith, if◌then◌else◌}
 use Rattle.std.specs.Set.{is_member}
 use Rattle.std.proofs.lemmas.Bool.{and_parts, ltb-true, ltb-false, true≢false}
 use Rattle.std.proofs.lemmas.Bool.Decides.{Decides-eqb}
@@ -237,7 +238,8 @@ begin-kept (Committing (Open tried)) now s s' flight done = done.call.1
 still-placed : (bigblocks : ℕ) (s s' : Store) → s' ≡ s → AreFlushPlaces bigblocks s → AreFlushPlaces bigblocks s'
 still-placed bigblocks s s' same placed = subst (λ (x : Store). AreFlushPlaces bigblocks x) (sym same) placed
 
-places-kept : (p : Position) (now : Header) (bigblocks : ℕ) (s s' : Store) → p ≢ Idle → PagesMove p now s s' → AreFlushPlaces bigblocks s → AreFlushPlaces bigblocks s'
+places-kept : (p : Position) (now : Header) (bigblocks : ℕ) (s s' : Store) → p ≢ Idle → PagesMove p now s s' → AreFlushPlaces bigblocks s
+    → AreFlushPlaces bigblocks s'
 places-kept Idle now bigblocks s s' flight store placed = absurd (flight refl)
 places-kept (Undoing from) now bigblocks s s' flight same placed = still-placed bigblocks s s' same placed
 places-kept (Arming change) now bigblocks s s' flight same placed = still-placed bigblocks s s' same placed
@@ -319,7 +321,8 @@ moves-begun f new now s s' idle ready frozen few is = record {
   stage_is = sym (ap (λ (p : Position). due_stage_at p f (group_of s)) idle);
   flush = subst (λ (p : Position). IsMoved p now Freeze s' f new) (sym idle) is;
   store = subst (λ (p : Position). PagesMove p now s s') (sym idle) frozen;
-  left = subst (λ (p : Position). LeftFalls p s' f new) (sym idle) (subst (λ (n : Flush). left n ≤ 2 * length s'.frozen_group + 8) (sym is) (omega (arith, few)));
+  left = subst (λ (p : Position). LeftFalls p s' f new) (sym idle)
+      (subst (λ (n : Flush). left n ≤ 2 * length s'.frozen_group + 8) (sym is) (omega (arith, few)));
   volume = ap (λ (n : Flush). n.header.bigblocks) is;
   ready = subst (λ (n : Flush). IsFlushReady n s') (sym is) (record {
     closed = frozen.call.1 ∙ ready.closed;

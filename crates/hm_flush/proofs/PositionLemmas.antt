@@ -1,5 +1,6 @@
 -- A flush of two pages over a disk, brought from position to position: at each one the guard holds.
-use Rattle.std.proofs.Common.{◌≡◌, ◌≢◌, ◌⊎◌, inl, inr, ⊎_elim, ℕ, zero, suc, ◌+◌, ◌-◌, ◌*◌, ◌<◌, ◌≤◌, ◌&&◌, ◌||◌, Bool, true, false, List, [], ◌∷◌, is_some, length, refl, sym, ◌∙◌, ap, subst, arith, nat_eq, nat_le, nat_lt, slice_index, if◌then◌else◌}
+use Rattle.std.proofs.Common.{◌≡◌, ◌≢◌, ◌⊎◌, inl, inr, ⊎_elim, ℕ, zero, suc, ◌+◌, ◌-◌, ◌*◌, ◌<◌, ◌≤◌, ◌&&◌, ◌||◌, Bool, true, false, List, [], ◌∷◌}
+use Rattle.std.proofs.Common.{is_some, length, refl, sym, ◌∙◌, ap, subst, arith, nat_eq, nat_le, nat_lt, slice_index, if◌then◌else◌}
 use Rattle.std.specs.Set.{is_member}
 use Rattle.hm_types.specs.declared.limits.TheConstants.{BIGBLOCK_BYTES, PAGE_BYTES}
 use Rattle.hm_types.specs.Layout.{first_pool, start_of}
@@ -28,7 +29,9 @@ use Rattle.hm_flush.specs.Guard.{ArePlaced, Guards, IsGuarded}
 use Rattle.hm_flush.specs.Recoverable.{HoldsPage, HoldsPages, IsInPages}
 use Rattle.hm_flush.specs.Stages.{MakesStage, asks, due_stage, moved_flush, range_of}
 use Rattle.hm_flush.proofs.CallLemmas.{guards-begun}
-use Rattle.hm_flush.proofs.ExampleLemmas.{are-pages, committed-only, committed-placed, committed-there, committed_map, current-only, current-there, current_map, fresh-none, fresh-there, frozen-all, frozen-sound, frozen_store, idle-places, idle-sound, idle_store, is-frozen, member-fresh, member-live, one-live}
+use Rattle.hm_flush.proofs.ExampleLemmas.{are-pages, committed-only, committed-placed, committed-there, committed_map, current-only, current-there}
+use Rattle.hm_flush.proofs.ExampleLemmas.{current_map, fresh-none, fresh-there, frozen-all, frozen-sound, frozen_store, idle-places, idle-sound}
+use Rattle.hm_flush.proofs.ExampleLemmas.{idle_store, is-frozen, member-fresh, member-live, one-live}
 use Rattle.hm_flush.proofs.GroupLemmas.{next_live-dead, next_live-live}
 use Rattle.hm_flush.proofs.MadeUpLemmas.{counts, made-up, root-stands, settled-guarded}
 use Rattle.hm_flush.proofs.MoveLemmas.{moves, moves-begun, sound-begun, sound-moved}

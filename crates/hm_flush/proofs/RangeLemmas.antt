@@ -1,5 +1,6 @@
 -- The range that a stage writes has no byte on which the guard hangs.
-use Rattle.std.proofs.Common.{◌≡◌, ◌≢◌, ◌⊎◌, inl, inr, ⊎_elim, ℕ, zero, suc, ◌+◌, ◌-◌, ◌*◌, ◌<◌, ◌≤◌, Bool, true, false, List, [], ◌∷◌, length, refl, sym, ◌∙◌, ap, subst, arith, nat_eq, nat_lt, slice_index, Some, if◌then◌else◌}
+use Rattle.std.proofs.Common.{◌≡◌, ◌≢◌, ◌⊎◌, inl, inr, ⊎_elim, ℕ, zero, suc, ◌+◌, ◌-◌, ◌*◌, ◌<◌, ◌≤◌, Bool, true, false, List, [], ◌∷◌, length, refl}
+use Rattle.std.proofs.Common.{sym, ◌∙◌, ap, subst, arith, nat_eq, nat_lt, slice_index, Some, if◌then◌else◌}
 use Rattle.std.specs.List.Sorted.{IsStrictlyIncreasing}
 use Rattle.std.specs.Set.{is_member}
 use Rattle.std.proofs.lemmas.Bool.{ltb-true, true≢false}
@@ -127,7 +128,8 @@ module _ (header : Header) (slot : ℕ) (target : Header) (pages live written : 
       → IsOut (range_of (at_position p) (group_of s)) byte
   needs-out_at Idle len group committed frozen byte need = none-out byte
   needs-out_at (Undoing from) len group committed frozen byte need =
-      undo-needs (next_live (group_of s).was_live from (pages - from)) (nat_lt (next_live (group_of s).was_live from (pages - from)) pages) committed from byte need
+      undo-needs (next_live (group_of s).was_live from (pages - from)) (nat_lt (next_live (group_of s).was_live from (pages - from)) pages) committed
+      from byte need
   needs-out_at (Arming change) len group committed frozen byte (inl inside) =
       change-out change slot byte (pages-past header.bigblocks s.committed byte committed inside)
   needs-out_at (Arming change) len group committed frozen byte (inr log) =

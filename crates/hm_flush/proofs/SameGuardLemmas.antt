@@ -1,5 +1,6 @@
 -- What keeps the guarded bytes keeps the guard.
-use Rattle.std.proofs.Common.{◌≡◌, ◌⊎◌, inl, inr, ⊎_elim, ℕ, zero, suc, ◌+◌, ◌*◌, ◌<◌, ◌≤◌, Bool, true, false, List, [], ◌∷◌, length, get_or, slice_index, refl, sym, ◌∙◌, ap, subst, arith, if◌then◌else◌}
+use Rattle.std.proofs.Common.{◌≡◌, ◌⊎◌, inl, inr, ⊎_elim, ℕ, zero, suc, ◌+◌, ◌*◌, ◌<◌, ◌≤◌, Bool, true, false, List, [], ◌∷◌, length, get_or}
+use Rattle.std.proofs.Common.{slice_index, refl, sym, ◌∙◌, ap, subst, arith, if◌then◌else◌}
 use Rattle.hm_disk.specs.Crash.{Told, MayLeave, Outside, is_outside}
 use Rattle.hm_disk.proofs.CrashLemmas.{is_outside-from, is_outside-is}
 use Rattle.hm_fields.specs.Pages.{PageMap}

@@ -1,5 +1,7 @@
 -- One entry more of the log.
-use Rattle.std.proofs.Common.{◌≡◌, ◌≢◌, ◌⊎◌, inl, inr, ⊎_elim, ℕ, zero, suc, ◌+◌, ◌-◌, ◌*◌, ◌^◌, ◌<◌, ◌≤◌, Bool, true, false, List, [], ◌∷◌, ◌++◌, length, length-append, get_or, refl, sym, ◌∙◌, ap, subst, arith, is_some, slice_index, slice_get, Option, Some, None, IfSome}
+use Rattle.std.proofs.Common.{◌≡◌, ◌≢◌, ◌⊎◌, inl, inr, ⊎_elim, ℕ, zero, suc, ◌+◌, ◌-◌, ◌*◌, ◌^◌, ◌<◌, ◌≤◌, Bool, true, false, List, [], ◌∷◌, ◌++◌}
+use Rattle.std.proofs.Common.{length, length-append, get_or, refl, sym, ◌∙◌, ap, subst, arith, is_some, slice_index, slice_get, Option, Some, None}
+use Rattle.std.proofs.Common.{IfSome}
 use Rattle.std.proofs.lemmas.Bool.{cases_lt, true≢false}
 use Rattle.std.proofs.lemmas.List.{places, get_or-append_right}
 use Rattle.std.proofs.lemmas.Option.{slice_get_cases}
@@ -47,7 +49,8 @@ module _ (header : Header) (s : Store) (written : ℕ) (old : List ℕ) (at : �
   -- the new one
   new-entry : HasUndoEntry saved-bytes (armed_header header (written + 1)) (entry_at header.undo_next written) saved-page
   new-entry =
-      entry-written old (armed_header header (written + 1)) (entry_at header.undo_next written) saved-page is.bigblocks room (omega arith) (omega arith) named sized
+      entry-written old (armed_header header (written + 1)) (entry_at header.undo_next written) saved-page is.bigblocks room (omega arith)
+      (omega arith) named sized
 
   -- those before
   old-entry : (olds : List OldPage) → HasRange old (armed_header header written) olds → (i : ℕ) (d : OldPage) → i < length olds
@@ -71,22 +74,26 @@ module _ (header : Header) (s : Store) (written : ℕ) (old : List ℕ) (at : �
       out byte inside (inl low) = inl (omega (arith, inside, low))
       out byte inside (inr high) = inr (omega (arith, inside, high, long))
 
-  all-entries : (olds : List OldPage) → HasRange old (armed_header header written) olds → HasRange saved-bytes (armed_header header (written + 1)) (olds ++ saved-page ∷ [])
+  all-entries : (olds : List OldPage) → HasRange old (armed_header header written) olds
+      → HasRange saved-bytes (armed_header header (written + 1)) (olds ++ saved-page ∷ [])
   all-entries olds range = record {
     count = omega (arith, length-append olds (saved-page ∷ []), range.count);
     each = λ i. step i (slice_get_cases (olds ++ saved-page ∷ []) i).1;
   }
     where
-      here : (i : ℕ) (d : OldPage) → i < length (olds ++ saved-page ∷ []) → HasUndoEntry saved-bytes (armed_header header (written + 1)) (entry_at header.undo_next i) (get_or (olds ++ saved-page ∷ []) i d)
+      here : (i : ℕ) (d : OldPage) → i < length (olds ++ saved-page ∷ [])
+          → HasUndoEntry saved-bytes (armed_header header (written + 1)) (entry_at header.undo_next i) (get_or (olds ++ saved-page ∷ []) i d)
       here i d below = ⊎_elim early late (cases_lt i (length olds))
         where
-          early : i < length olds → HasUndoEntry saved-bytes (armed_header header (written + 1)) (entry_at header.undo_next i) (get_or (olds ++ saved-page ∷ []) i d)
+          early : i < length olds → HasUndoEntry saved-bytes (armed_header header (written + 1)) (entry_at header.undo_next i)
+              (get_or (olds ++ saved-page ∷ []) i d)
           early less =
               let same : get_or (olds ++ saved-page ∷ []) i d ≡ get_or olds i d = grind (arith, places, less) in
               subst (λ (o : OldPage). HasUndoEntry saved-bytes (armed_header header (written + 1)) (entry_at header.undo_next i) o) (sym same)
               (old-entry olds range i d less)
 
-          late : length olds ≤ i → HasUndoEntry saved-bytes (armed_header header (written + 1)) (entry_at header.undo_next i) (get_or (olds ++ saved-page ∷ []) i d)
+          late : length olds ≤ i → HasUndoEntry saved-bytes (armed_header header (written + 1)) (entry_at header.undo_next i)
+              (get_or (olds ++ saved-page ∷ []) i d)
           late past =
               let last : i ≡ written = omega (arith, past, below, range.count, length-append olds (saved-page ∷ [])) in
               let none : i - length olds ≡ 0 = omega (arith, last, range.count) in
@@ -96,7 +103,8 @@ module _ (header : Header) (s : Store) (written : ℕ) (old : List ℕ) (at : �
               (subst (λ (k : ℕ). HasUndoEntry saved-bytes (armed_header header (written + 1)) (entry_at header.undo_next k) saved-page) (sym last) new-entry)
 
       step : (i : ℕ) → ((old_page : OldPage) × (i < length (olds ++ saved-page ∷ [])) × (slice_get (olds ++ saved-page ∷ []) i ≡ Some old_page)
-          × (get_or (olds ++ saved-page ∷ []) i old_page ≡ old_page)) ⊎ ((length (olds ++ saved-page ∷ []) ≤ i) × (slice_get (olds ++ saved-page ∷ []) i ≡ None))
+          × (get_or (olds ++ saved-page ∷ []) i old_page ≡ old_page)) ⊎ ((length (olds ++ saved-page ∷ []) ≤ i)
+          × (slice_get (olds ++ saved-page ∷ []) i ≡ None))
           → IfSome (slice_get (olds ++ saved-page ∷ []) i) (HasUndoEntry saved-bytes (armed_header header (written + 1)) (entry_at header.undo_next i))
       step i (inl some) =
           let P : Option OldPage → Type 0 = λ o. IfSome o (HasUndoEntry saved-bytes (armed_header header (written + 1)) (entry_at header.undo_next i)) in

@@ -59,5 +59,6 @@ other-is = record { volume = omega arith; page = omega arith; zone = inl (omega 
 pub some-guarded : (p : Position) → IsPositionOf 2 p → GuardedAt p
 some-guarded p fits =
     guarded-at some_header other (replicate PAGE_BYTES 0) (replicate PAGE_BYTES 1) (replicate PAGE_BYTES 2) header-is refl other-is (omega arith)
-    (length-replicate {A = ℕ} PAGE_BYTES 0) (length-replicate {A = ℕ} PAGE_BYTES 1) (length-replicate {A = ℕ} PAGE_BYTES 2) (start_of 12) BLOCK_BYTES (omega arith) (omega arith)
+    (length-replicate {A = ℕ} PAGE_BYTES 0) (length-replicate {A = ℕ} PAGE_BYTES 1) (length-replicate {A = ℕ} PAGE_BYTES 2) (start_of 12) BLOCK_BYTES
+    (omega arith) (omega arith)
     (omega arith) (inl (omega arith)) (inl (omega arith)) p fits

@@ -1,5 +1,6 @@
 -- What the stage that is due_stage does to a disk, where it tells.
-use Rattle.std.proofs.Common.{◌≡◌, ◌≢◌, ◌⊎◌, inl, inr, ℕ, ◌+◌, ◌-◌, Bool, true, false, List, ◌∷◌, length, refl, sym, ap, subst, Option, IfSome, slice_index, nat_lt, if◌then◌else◌}
+use Rattle.std.proofs.Common.{◌≡◌, ◌≢◌, ◌⊎◌, inl, inr, ℕ, ◌+◌, ◌-◌, Bool, true, false, List, ◌∷◌, length, refl, sym, ap, subst, Option, IfSome}
+use Rattle.std.proofs.Common.{slice_index, nat_lt, if◌then◌else◌}
 use Rattle.hm_types.specs.declared.limits.TheConstants.{PAGE_BYTES, UNDO_ENTRY_BYTES}
 use Rattle.hm_types.specs.Offset.{byte_of}
 use Rattle.hm_types.specs.Told.{BothTell}
@@ -43,11 +44,13 @@ module _ (f : Flush) (s : Store) (sound : IsFlush f) (group : IsGroupOf f s) (pl
   past stage is t stands =
       subst (λ (st : Stage). LiesPast st f (group_of s) (length t.bytes)) is (lies-past f s (length t.bytes) flight sound group placed stands.room)
 
-  pub undo-made : (i : ℕ) → due_stage f (group_of s) ≡ Undo i → BothTell old new (IsSaved (undo_range f).0 (next_generation f.header) (slice_index s.frozen_group i))
+  pub undo-made : (i : ℕ) → due_stage f (group_of s) ≡ Undo i → BothTell old new
+      (IsSaved (undo_range f).0 (next_generation f.header) (slice_index s.frozen_group i))
       → BothTell old new (DueStageMade f (group_of s))
   undo-made i is saved = BothTell-map old new (FlushStands f) _ (DueStageMade f (group_of s)) each stands saved
     where
-      each : (a b : Told) → FlushStands f a → IsSaved (undo_range f).0 (next_generation f.header) (slice_index s.frozen_group i) a b → DueStageMade f (group_of s) a b
+      each : (a b : Told) → FlushStands f a → IsSaved (undo_range f).0 (next_generation f.header) (slice_index s.frozen_group i) a b
+          → DueStageMade f (group_of s) a b
       each a b here write =
           let lies = past (Undo i) is a here in
           subst (λ (st : Stage). MakesStage st f (group_of s) a b) (sym is) (made-undo f (group_of s) i a b lies.1 lies.2 write)
@@ -56,12 +59,14 @@ module _ (f : Flush) (s : Store) (sound : IsFlush f) (group : IsGroupOf f s) (pl
       → BothTell old new (StageFailed (asks f) (range_of f (group_of s)).0 (range_of f (group_of s)).1)
   undo-failed i is torn = BothTell-map old new (FlushStands f) _ _ each stands torn
     where
-      each : (a b : Told) → FlushStands f a → TornAll (undo_range f).0 (undo_range f).1 a b → StageFailed (asks f) (range_of f (group_of s)).0 (range_of f (group_of s)).1 a b
+      each : (a b : Told) → FlushStands f a → TornAll (undo_range f).0 (undo_range f).1 a b
+          → StageFailed (asks f) (range_of f (group_of s)).0 (range_of f (group_of s)).1 a b
       each a b here write =
           subst (λ (st : Stage). StageFailed (asks f) (stage_range st f (group_of s)).0 (stage_range st f (group_of s)).1 a b) (sym is)
           (failed-write (asks f) (undo_range f).0 (undo_range f).1 a b (λ image left. undo-asks f.at f (group_of s) i is image) write)
 
-  pub undo-elapses : (i : ℕ) (before since : LeftSince) → due_stage f (group_of s) ≡ Undo i → BothTell old new (WriteElapses (undo_range f).0 (undo_range f).1 before since)
+  pub undo-elapses : (i : ℕ) (before since : LeftSince) → due_stage f (group_of s) ≡ Undo i
+      → BothTell old new (WriteElapses (undo_range f).0 (undo_range f).1 before since)
       → BothTell old new (StageElapses (asks f) (range_of f (group_of s)).0 (range_of f (group_of s)).1 before since)
   undo-elapses i before since is time = BothTell-map old new (FlushStands f) _ _ each stands time
     where
@@ -74,7 +79,8 @@ module _ (f : Flush) (s : Store) (sound : IsFlush f) (group : IsGroupOf f s) (pl
   place : ℕ → ℕ
   place i = byte_of (slice_index s.frozen_group i)
 
-  pub place-made : (i : ℕ) → due_stage f (group_of s) ≡ Place i → BothTell old new (IsPageWritten (group_of s) i) → BothTell old new (DueStageMade f (group_of s))
+  pub place-made : (i : ℕ) → due_stage f (group_of s) ≡ Place i → BothTell old new (IsPageWritten (group_of s) i)
+      → BothTell old new (DueStageMade f (group_of s))
   place-made i is written = BothTell-map old new (FlushStands f) _ (DueStageMade f (group_of s)) each stands written
     where
       each : (a b : Told) → FlushStands f a → IsPageWritten (group_of s) i a b → DueStageMade f (group_of s) a b

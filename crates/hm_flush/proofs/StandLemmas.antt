@@ -1,5 +1,6 @@
 -- The header counts as each stage needs it, before it and after it.
-use Rattle.std.proofs.Common.{◌≡◌, ◌≢◌, ◌⊎◌, inl, inr, ℕ, zero, suc, ◌+◌, ◌-◌, ◌*◌, ◌<◌, ◌≤◌, Bool, true, false, List, [], ◌∷◌, length, refl, sym, ◌∙◌, ap, subst, arith, nat_lt, slice_index, if◌then◌else◌}
+use Rattle.std.proofs.Common.{◌≡◌, ◌≢◌, ◌⊎◌, inl, inr, ℕ, zero, suc, ◌+◌, ◌-◌, ◌*◌, ◌<◌, ◌≤◌, Bool, true, false, List, [], ◌∷◌, length, refl, sym}
+use Rattle.std.proofs.Common.{◌∙◌, ap, subst, arith, nat_lt, slice_index, if◌then◌else◌}
 use Rattle.std.proofs.lemmas.Bool.{ltb-true}
 use Rattle.hm_types.specs.declared.limits.TheConstants.{PAGE_BYTES, UNDO_ENTRY_BYTES}
 use Rattle.hm_types.specs.Offset.{byte_of}
@@ -86,7 +87,8 @@ group-len (Arming change) f s flight group = group.pages
 group-len (Placing i) f s flight group = group.pages
 group-len (Committing change) f s flight group = group.pages
 
-pub lies-past : (f : Flush) (s : Store) (size : ℕ) → f.at ≢ Idle → IsFlush f → IsGroupOf f s → AreFlushPlaces f.header.bigblocks s → HasRoom size f.header.bigblocks
+pub lies-past : (f : Flush) (s : Store) (size : ℕ) → f.at ≢ Idle → IsFlush f → IsGroupOf f s → AreFlushPlaces f.header.bigblocks s
+    → HasRoom size f.header.bigblocks
     → LiesPast (due_stage f (group_of s)) f (group_of s) size
 lies-past f s size flight sound group placed room =
     lies (due_stage f (group_of s)) f s size sound (group-len f.at f s flight group) placed room (numbered f.at f (group_of s))
@@ -111,7 +113,8 @@ module _ (header : Header) (slot : ℕ) (target : Header) (pages live written : 
   abbrev at_position : Position → Flush
   at_position at = flush_at header slot target pages live written at
 
-  roomy : (s t : Told) (range : ℕ × ℕ) → MayLeave s.bytes (range ∷ []) t.bytes → HasRoom (length s.bytes) header.bigblocks → HasRoom (length t.bytes) header.bigblocks
+  roomy : (s t : Told) (range : ℕ × ℕ) → MayLeave s.bytes (range ∷ []) t.bytes → HasRoom (length s.bytes) header.bigblocks
+      → HasRoom (length t.bytes) header.bigblocks
   roomy s t range change room = subst (λ (n : ℕ). HasRoom n header.bigblocks) (sym change.size) room
 
   undoing-stands : (from : ℕ) (g : Group) (s t : Told) → FlushStands (at_position (Undoing from)) s
@@ -191,7 +194,8 @@ module _ (header : Header) (slot : ℕ) (target : Header) (pages live written : 
   }
   committing-stands (Open tried) g s t stands made = record { room = roomy s t _ made.others stands.room; header = made.made.has }
 
-  stands-on_at : (at : Position) (g : Group) (s t : Told) → at ≢ Idle → FlushStands (at_position at) s → LiesPast (due_stage (at_position at) g) (at_position at) g (length s.bytes)
+  stands-on_at : (at : Position) (g : Group) (s t : Told) → at ≢ Idle → FlushStands (at_position at) s
+      → LiesPast (due_stage (at_position at) g) (at_position at) g (length s.bytes)
       → MakesStage (due_stage (at_position at) g) (at_position at) g s t → FlushStands (moved_flush (due_stage (at_position at) g) (at_position at)) t
   stands-on_at Idle g s t flight stands past made = absurd (flight refl)
   stands-on_at (Undoing from) g s t flight stands past made = undoing-stands from g s t stands past made
@@ -217,7 +221,8 @@ module _ (header : Header) (slot : ℕ) (target : Header) (pages live written : 
       }
       step false past change = record { room = roomy s t _ change stands.room; header = header-none s.bytes t.bytes header slot change stands.header }
 
-  stands-tried_at : (at : Position) (g : Group) (s t : Told) → at ≢ Idle → FlushStands (at_position at) s → LiesPast (due_stage (at_position at) g) (at_position at) g (length s.bytes)
+  stands-tried_at : (at : Position) (g : Group) (s t : Told) → at ≢ Idle → FlushStands (at_position at) s
+      → LiesPast (due_stage (at_position at) g) (at_position at) g (length s.bytes)
       → StageFailed (asks (at_position at)) (range_of (at_position at) g).0 (range_of (at_position at) g).1 s t → FlushStands (tried (at_position at)) t
   stands-tried_at Idle g s t flight stands past failed = absurd (flight refl)
   stands-tried_at (Undoing from) g s t flight stands past failed = tried-undoing from g s t stands past failed.torn.bytes_are
@@ -235,7 +240,8 @@ module _ (header : Header) (slot : ℕ) (target : Header) (pages live written : 
     header = (failed.crash, λ first. absurd (cc));
   }
 
-pub stands-on : (f : Flush) (g : Group) (s t : Told) → f.at ≢ Idle → FlushStands f s → LiesPast (due_stage f g) f g (length s.bytes) → MakesStage (due_stage f g) f g s t
+pub stands-on : (f : Flush) (g : Group) (s t : Told) → f.at ≢ Idle → FlushStands f s → LiesPast (due_stage f g) f g (length s.bytes)
+    → MakesStage (due_stage f g) f g s t
     → FlushStands (moved_flush (due_stage f g) f) t
 stands-on f g s t flight stands past made = stands-on_at f.header f.slot f.target f.pages f.live f.written f.at g s t flight stands past made
 

@@ -1,5 +1,6 @@
 -- Each stage keeps the guard, and whatever a crash within it leaves is recoverable.
-use Rattle.std.proofs.Common.{◌≡◌, ◌≢◌, ◌⊎◌, inl, inr, ⊎_elim, ℕ, ◌+◌, ◌-◌, ◌*◌, ◌<◌, ◌≤◌, Bool, true, false, List, [], ◌∷◌, length, refl, sym, ◌∙◌, ap, subst, arith, is_some, nat_eq, nat_lt, slice_index, slice_range, Option, None, Some, unwrap_or, if◌then◌else◌}
+use Rattle.std.proofs.Common.{◌≡◌, ◌≢◌, ◌⊎◌, inl, inr, ⊎_elim, ℕ, ◌+◌, ◌-◌, ◌*◌, ◌<◌, ◌≤◌, Bool, true, false, List, [], ◌∷◌, length, refl, sym, ◌∙◌}
+use Rattle.std.proofs.Common.{ap, subst, arith, is_some, nat_eq, nat_lt, slice_index, slice_range, Option, None, Some, unwrap_or, if◌then◌else◌}
 use Rattle.std.specs.Set.{is_member}
 use Rattle.std.proofs.lemmas.Bool.{cases_lt, ltb-true, ltb-false, true≢false}
 use Rattle.hm_types.specs.declared.limits.TheConstants.{MOST_GROUP_PAGES, PAGE_BYTES}
@@ -144,7 +145,8 @@ saved-on : (header : Header) (written : ℕ) (s : Store) (a b : Told) (from next
 saved-on header written s a b from next page is room few named live stood skips written_are saved =
     subst (λ (bytes : List ℕ). HasSaved (armed_header header (written + 1)) s (next + 1) bytes)
     (sym (written_are.bytes_are
-    ∙ ap (λ (p : List ℕ). overwritten a.bytes (entry_place header.bigblocks (entry_at header.undo_next written)) (undo_entry_of at (next_generation header) p)) stood))
+    ∙ ap (λ (p : List ℕ). overwritten a.bytes (entry_place header.bigblocks (entry_at header.undo_next written))
+    (undo_entry_of at (next_generation header) p)) stood))
     (saved-more header s written a.bytes at page is room few named live sized from next refl skips saved)
   where
     at : ℕ
@@ -350,7 +352,8 @@ module _ (header : Header) (slot : ℕ) (target : Header) (pages live written : 
   on_at Idle s' now flight fits store guards made within read stands = absurd (flight refl)
   on_at (Undoing from) s' now flight fits store guards made within read stands =
       subst (λ (x : Store). Guards (moved_flush (due_stage (at_position (Undoing from)) (group_of s)) (at_position (Undoing from))) x b) (sym store)
-      (undoing-on from (next_live (group_of s).was_live from (pages - from)) (nat_lt (next_live (group_of s).was_live from (pages - from)) pages) refl fits guards
+      (undoing-on from (next_live (group_of s).was_live from (pages - from)) (nat_lt (next_live (group_of s).was_live from (pages - from)) pages) refl
+      fits guards
       (λ less. next_live-is (group_of s).was_live from (pages - from) (omega (arith, less, fits.sound.counts.0)))
       (λ i past below. next_live-skips (group_of s).was_live from (pages - from) i past below) within made stands)
   on_at (Arming change) s' now flight fits store guards made within read stands =

@@ -1,5 +1,6 @@
 -- Zones that a call names get the room that they need.
-use Rattle.std.proofs.Common.{◌≡◌, ◌≢◌, Bool, true, false, true≢false, ℕ, zero, suc, ◌+◌, ◌-◌, ◌<◌, ◌≤◌, ⊎_elim, List, [], ◌∷◌, length, slice_index, refl, sym, ap, subst, ◌∙◌, arith, cond, ◌&&◌, nat_lt}
+use Rattle.std.proofs.Common.{◌≡◌, ◌≢◌, Bool, true, false, true≢false, ℕ, zero, suc, ◌+◌, ◌-◌, ◌<◌, ◌≤◌, ⊎_elim, List, [], ◌∷◌, length, slice_index}
+use Rattle.std.proofs.Common.{refl, sym, ap, subst, ◌∙◌, arith, cond, ◌&&◌, nat_lt}
 use Rattle.std.specs.Prelude.{count_by, filter}
 use Rattle.std.specs.List.{range_with_len}
 use Rattle.std.proofs.lemmas.Bool.{cases_eq}

@@ -1,5 +1,6 @@
 -- How many bytes of a big-block may be live: each byte is referred to at most 64 times.
-use Rattle.std.proofs.Common.{◌≡◌, Bool, true, false, ℕ, zero, suc, ◌+◌, ◌-◌, ◌*◌, ◌<◌, ◌≤◌, max, inl, inr, ⊎_elim, List, [], ◌∷◌, refl, ap, arith, cond, ◌&&◌, nat_le, nat_lt, eqb-true, eq-eqb}
+use Rattle.std.proofs.Common.{◌≡◌, Bool, true, false, ℕ, zero, suc, ◌+◌, ◌-◌, ◌*◌, ◌<◌, ◌≤◌, max, inl, inr, ⊎_elim, List, [], ◌∷◌, refl, ap, arith}
+use Rattle.std.proofs.Common.{cond, ◌&&◌, nat_le, nat_lt, eqb-true, eq-eqb}
 use Rattle.std.specs.Prelude.{count_by, All}
 use Rattle.std.proofs.lemmas.Bool.{cases_lt}
 use Rattle.std.proofs.lemmas.Bool.Decides.{nat_tests}
@@ -117,7 +118,8 @@ live_total : (bigblocks block start size : ℕ) (rs : List Reference) → start 
 live_total bigblocks block start size [] begin whole placed = omega arith
 live_total bigblocks block start size (r ∷ rs) begin whole placed =
     let rest = live_total bigblocks block start size rs begin whole (All-tail (IsPlaced bigblocks) r rs placed) in
-    let sum = total-add (λ x. bit (covers x r)) (λ x. count_by (covers x) rs) (λ x. count_by (covers x) (r ∷ rs)) start size (λ x. count-cons (covers x) r rs) in
+    let sum = total-add (λ x. bit (covers x r)) (λ x. count_by (covers x) rs) (λ x. count_by (covers x) (r ∷ rs)) start size
+    (λ x. count-cons (covers x) r rs) in
     let first : cond (is_in block r) (rounded r.len) 0 ≤ total (λ x. bit (covers x r)) start size = by_place (is_in block r) refl in
     omega (arith, rest, sum, first) where
       by_place : (b : Bool) → is_in block r ≡ b → cond b (rounded r.len) 0 ≤ total (λ x. bit (covers x r)) start size
@@ -130,7 +132,8 @@ live_total bigblocks block start size (r ∷ rs) begin whole placed =
           let all : end_of r ≤ start + size = omega (arith, high, here, begin, whole) in
           omega (arith, total-within (begin_of r) (end_of r) start size all, low, here, begin)
 
-live_bound : (bigblocks block start size : ℕ) (rs : List Reference) → start ≡ start_of block → size ≡ BIGBLOCK_BYTES → All (IsPlaced bigblocks) rs → NoneOverlap rs → AreFew rs
+live_bound : (bigblocks block start size : ℕ) (rs : List Reference) → start ≡ start_of block → size ≡ BIGBLOCK_BYTES → All (IsPlaced bigblocks) rs
+    → NoneOverlap rs → AreFew rs
     → live_bytes rs block ≤ MOST_REFERENCES * size
 live_bound bigblocks block start size rs begin whole placed apart few =
     let all = total-few (λ x. count_by (covers x) rs) MOST_REFERENCES start size (λ x. few_cover x rs apart few) in

@@ -8,7 +8,8 @@ use Rattle.std.proofs.lemmas.Int.{ints}
 use Rattle.std.proofs.lemmas.List.Elements.{All-head, All-tail, All-cons, All-weaker}
 use Rattle.hm_types.specs.Layout.{IsPool, block_of, start_of}
 use Rattle.hm_types.specs.Offset.{zone_of, volume_of, byte_of}
-use Rattle.hm_types.specs.References.{Reference, References, begin_of, end_of, IsPlaced, NoneOverlap, DoNotOverlap, IsOneExtent, AreFew, is_there, is_in, unit_of, live_bytes}
+use Rattle.hm_types.specs.References.{Reference, References, begin_of, end_of, IsPlaced, NoneOverlap, DoNotOverlap, IsOneExtent, AreFew, is_there}
+use Rattle.hm_types.specs.References.{is_in, unit_of, live_bytes}
 use Rattle.hm_types.specs.Space.{rounded}
 use Rattle.hm_types.specs.declared.limits.TheConstants.{BIGBLOCK_BYTES}
 use Rattle.hm_types.specs.declared.space.TheConstants.{MOST_REFERENCES}
@@ -79,7 +80,8 @@ overlaps_none r (x ∷ xs) ys is apart = by_test (is_extent r x) refl (λ more. 
   by_test : (b : Bool) → is_extent r x ≡ b → (list_any (is_extent r) xs ≡ true → All (DoNotOverlap r) (xs ++ ys)) → All (DoNotOverlap r) (x ∷ xs ++ ys)
   by_test true same rest =
       let one = one_extent r x same in
-      All-cons (DoNotOverlap r) x (xs ++ ys) (inl one) (All-weaker (DoNotOverlap x) (DoNotOverlap r) (λ t other. overlap_same r x t one other) (xs ++ ys) apart.0)
+      All-cons (DoNotOverlap r) x (xs ++ ys) (inl one) (All-weaker (DoNotOverlap x) (DoNotOverlap r) (λ t other. overlap_same r x t one other)
+      (xs ++ ys) apart.0)
   by_test false other rest =
       let more = or_second (is_extent r x) (list_any (is_extent r) xs) is other in
       let found = find_one r (DoNotOverlap x) xs ys more apart.0 in
@@ -176,7 +178,8 @@ module _ (bigblocks : ℕ) (append : List ℕ) (r : Reference) (maps : Maps) (no
       ap (λ (e : Entry). e.zone) read ∙ ap (λ (b : ℕ). (entry_of maps.current b).zone) (at ∙ same_home r below.s below.same) ∙ below.holds.zone in
       owned entry holds (omega (arith, placed.holds.zone, mine, zone))
 
-  tells_here : (states : References) → StandBy bigblocks append maps states → IsPlaced bigblocks r → entry.bytes_free +ℤ pos (live_bytes states.current block) ≡ pos BIGBLOCK_BYTES
+  tells_here : (states : References) → StandBy bigblocks append maps states → IsPlaced bigblocks r
+      → entry.bytes_free +ℤ pos (live_bytes states.current block) ≡ pos BIGBLOCK_BYTES
   tells_here states stand placed =
       let pool : IsPool bigblocks block = subst (IsPool bigblocks) (sym at) placed.pool in
       subst (λ (e : Entry). e.bytes_free +ℤ pos (live_bytes states.current block) ≡ pos BIGBLOCK_BYTES) (sym read) (stand.current block pool).free
@@ -184,7 +187,8 @@ module _ (bigblocks : ℕ) (append : List ℕ) (r : Reference) (maps : Maps) (no
   bound : (states : References) → StandBy bigblocks append maps states → live_bytes states.current block ≤ MOST_REFERENCES * BIGBLOCK_BYTES
   bound states stand =
       let rest = states.frozen ++ states.committed in
-      live_few bigblocks block states.current (all_left (IsPlaced bigblocks) states.current rest stand.placed) (apart_left states.current rest stand.apart) stand.few.2
+      live_few bigblocks block states.current (all_left (IsPlaced bigblocks) states.current rest stand.placed)
+      (apart_left states.current rest stand.apart) stand.few.2
 
   module _ (put : EntryPut block (shared (rounded r.len) entry) maps.current now) where
     share_stands : (states : References) → StandBy bigblocks append maps states → IsShareable r states
@@ -202,7 +206,8 @@ module _ (bigblocks : ℕ) (append : List ℕ) (r : Reference) (maps : Maps) (no
         let below = find_one r (IsBelow now) states.current rest needs.live all in
         let old = live_bytes states.current block in
         let sum : live_bytes (r ∷ states.current) block ≡ rounded r.len + old = here r block old at in
-        let most = live_few bigblocks block (r ∷ states.current) (all_left (IsPlaced bigblocks) (r ∷ states.current) rest placed) (apart_left (r ∷ states.current) rest apart) few in
+        let most = live_few bigblocks block (r ∷ states.current) (all_left (IsPlaced bigblocks) (r ∷ states.current) rest placed)
+        (apart_left (r ∷ states.current) rest apart) few in
         let tells = free_less entry.bytes_free (rounded r.len) old (tells_here states stand mine) (omega (arith, sum, most)) in
         stand_after bigblocks append maps states stand block next now put zone up (r ∷ states.current)
         (inl (owned_again (entry_owned states stand needs.live)))
@@ -242,7 +247,8 @@ module _ (bigblocks : ℕ) (append : List ℕ) (r : Reference) (maps : Maps) (no
         let up : (entry_of maps.current block).append_off ≤ next.append_off = omega (arith, ap (λ (e : Entry). e.append_off) read) in
         let all = all_below bigblocks append maps states stand block next now put zone up in
         let mine = placed_extent bigblocks append r maps states stand live in
-        let sum : live_bytes states.current block ≡ rounded r.len + live_bytes less block = live_without block r states.current live ∙ here r block (live_bytes less block) at in
+        let sum : live_bytes states.current block ≡ rounded r.len + live_bytes less block =
+        live_without block r states.current live ∙ here r block (live_bytes less block) at in
         let most = bound states stand in
         let before : entry.bytes_free +ℤ pos (rounded r.len + live_bytes less block) ≡ pos BIGBLOCK_BYTES =
         subst (λ (n : ℕ). entry.bytes_free +ℤ pos n ≡ pos BIGBLOCK_BYTES) sum (tells_here states stand mine) in

@@ -16,7 +16,8 @@ fresh_more bigblocks taken first i old new holds value zero others = record {
       (λ (same : j ≡ i). subst (λ (x : ℕ). entry_in new (x * 16) ≡ fresh_entry bigblocks taken (first + x)) (sym same) value)
       (λ other.
       let before : j < i = omega (arith, low, other) in
-      same_entry new old (j * 16) (others (j * 16) 4 (inr (omega arith))) (others (j * 16 + 4) 4 (inr (omega arith))) (others (j * 16 + 8) 4 (inr (omega arith)))
+      same_entry new old (j * 16) (others (j * 16) 4 (inr (omega arith))) (others (j * 16 + 4) 4 (inr (omega arith)))
+      (others (j * 16 + 8) 4 (inr (omega arith)))
       ∙ holds.entry j before)
       (cases_eq j i);
   zero = λ j low. ⊎_elim

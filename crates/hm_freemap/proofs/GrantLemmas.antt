@@ -1,5 +1,6 @@
 -- Zones that lacked room have begun new big-blocks: the call is admitted.
-use Rattle.std.proofs.Common.{◌≡◌, Bool, true, false, ℕ, ◌+◌, ◌-◌, ◌^◌, ◌<◌, ◌≤◌, min, inr, List, length, slice_index, refl, sym, ap, subst, ◌∙◌, arith, cond, nat_eq, Option, Some, None}
+use Rattle.std.proofs.Common.{◌≡◌, Bool, true, false, ℕ, ◌+◌, ◌-◌, ◌^◌, ◌<◌, ◌≤◌, min, inr, List, length, slice_index, refl, sym, ap, subst, ◌∙◌}
+use Rattle.std.proofs.Common.{arith, cond, nat_eq, Option, Some, None}
 use Rattle.std.proofs.Common.{◌≢◌}
 use Rattle.std.specs.Prelude.{IfSome}
 use Rattle.std.proofs.lemmas.List.FromFn.{length-range_with_len}
@@ -161,8 +162,10 @@ module _ (bigblocks : ℕ) (zones : Zones) (held : ℕ) (append append' : List �
   }
 
 -- the same where pages are told
-pub told_some : (bigblocks : ℕ) (zones : Zones) (held : ℕ) (append append' : List ℕ) (c f old new : Option PageMap) (lack : List Bool) (wanted : ℕ) (found : Found)
-    → bigblocks ≤ MOST_BIGBLOCKS → IfSome old (λ map. lack ≡ lacking zones (room_in append map)) → wanted ≡ min (count_of lack + held) (2 ^ 32 - 1) → count_of lack ≤ 4
+pub told_some : (bigblocks : ℕ) (zones : Zones) (held : ℕ) (append append' : List ℕ) (c f old new : Option PageMap) (lack : List Bool) (wanted : ℕ)
+    (found : Found)
+    → bigblocks ≤ MOST_BIGBLOCKS → IfSome old (λ map. lack ≡ lacking zones (room_in append map)) → wanted ≡ min (count_of lack + held) (2 ^ 32 - 1)
+    → count_of lack ≤ 4
     → wanted ≤ found.count → WhereTold c f old (λ maps. Finds (is_free_by append maps) wanted (pool bigblocks) found)
     → BothTell old new (Renewing lack found.first 4 (count_of lack) append append') → Moves c f old new (IsAdmitted bigblocks zones held append append')
 told_some bigblocks zones held append append' None f old new lack wanted found few is sized four enough finds renewing = tt
@@ -170,12 +173,14 @@ told_some bigblocks zones held append append' (Some c) None old new lack wanted 
 told_some bigblocks zones held append append' (Some c) (Some f) None new lack wanted found few is sized four enough finds renewing = tt
 told_some bigblocks zones held append append' (Some c) (Some f) (Some old) None lack wanted found few is sized four enough finds renewing = renewing
 told_some bigblocks zones held append append' (Some c) (Some f) (Some old) (Some new) lack wanted found few is sized four enough finds renewing =
-    admitted_some bigblocks zones held append append' (record { committed = c; frozen = f; current = old }) new lack wanted found few is sized four enough finds renewing
+    admitted_some bigblocks zones held append append' (record { committed = c; frozen = f; current = old }) new lack wanted found few is sized four
+    enough finds renewing
 
 pub told_none : (bigblocks : ℕ) (zones : Zones) (held : ℕ) (append : List ℕ) (c f old new : Option PageMap) (lack : List Bool) → new ≡ old
     → IfSome old (λ map. lack ≡ lacking zones (room_in append map)) → count_of lack ≡ 0 → Moves c f old new (IsAdmitted bigblocks zones held append append)
 told_none bigblocks zones held append c f old new lack same is none = rw same (by_told c f old is) where
-  by_told : (c f o : Option PageMap) → IfSome o (λ map. lack ≡ lacking zones (room_in append map)) → Moves c f o o (IsAdmitted bigblocks zones held append append)
+  by_told : (c f o : Option PageMap) → IfSome o (λ map. lack ≡ lacking zones (room_in append map))
+      → Moves c f o o (IsAdmitted bigblocks zones held append append)
   by_told None f o is = tt
   by_told (Some c) None o is = tt
   by_told (Some c) (Some f) None is = tt

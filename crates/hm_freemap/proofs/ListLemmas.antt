@@ -24,15 +24,17 @@ apart_left (x ∷ xs) ys apart = (all_left (DoNotOverlap x) xs ys apart.0, apart
 -- the list without one of its elements
 pub all_without : (P : Reference → Type 0) (r : Reference) (xs ys : List Reference) → All P (xs ++ ys) → All P (without_one r xs ++ ys)
 all_without P r [] ys each = each
-all_without P r (x ∷ xs) ys each = by_test (is_extent r x) (All-head P x (xs ++ ys) each) (All-tail P x (xs ++ ys) each) (all_without P r xs ys (All-tail P x (xs ++ ys) each)) where
-  by_test : (b : Bool) → P x → All P (xs ++ ys) → All P (without_one r xs ++ ys) → All P (cond b xs (x ∷ without_one r xs) ++ ys)
-  by_test true first rest less = rest
-  by_test false first rest less = All-cons P x (without_one r xs ++ ys) first less
+all_without P r (x ∷ xs) ys each = by_test (is_extent r x) (All-head P x (xs ++ ys) each) (All-tail P x (xs ++ ys) each)
+    (all_without P r xs ys (All-tail P x (xs ++ ys) each)) where
+      by_test : (b : Bool) → P x → All P (xs ++ ys) → All P (without_one r xs ++ ys) → All P (cond b xs (x ∷ without_one r xs) ++ ys)
+      by_test true first rest less = rest
+      by_test false first rest less = All-cons P x (without_one r xs ++ ys) first less
 
 pub apart_without : (r : Reference) (xs ys : List Reference) → NoneOverlap (xs ++ ys) → NoneOverlap (without_one r xs ++ ys)
 apart_without r [] ys apart = apart
 apart_without r (x ∷ xs) ys apart = by_test (is_extent r x) (all_without (DoNotOverlap x) r xs ys apart.0) apart.1 (apart_without r xs ys apart.1) where
-  by_test : (b : Bool) → All (DoNotOverlap x) (without_one r xs ++ ys) → NoneOverlap (xs ++ ys) → NoneOverlap (without_one r xs ++ ys) → NoneOverlap (cond b xs (x ∷ without_one r xs) ++ ys)
+  by_test : (b : Bool) → All (DoNotOverlap x) (without_one r xs ++ ys) → NoneOverlap (xs ++ ys) → NoneOverlap (without_one r xs ++ ys)
+      → NoneOverlap (cond b xs (x ∷ without_one r xs) ++ ys)
   by_test true first rest less = rest
   by_test false first rest less = (first, less)
 
@@ -82,7 +84,8 @@ pub live_without : (block : ℕ) (r : Reference) (xs : List Reference) → list_
     → live_bytes xs block ≡ cond (is_in block r) (rounded r.len) 0 + live_bytes (without_one r xs) block
 live_without block r [] is = absurd (true≢false (sym is))
 live_without block r (x ∷ xs) is = by_test (is_extent r x) refl (λ more. live_without block r xs more) where
-  by_test : (b : Bool) → is_extent r x ≡ b → (list_any (is_extent r) xs ≡ true → live_bytes xs block ≡ cond (is_in block r) (rounded r.len) 0 + live_bytes (without_one r xs) block)
+  by_test : (b : Bool) → is_extent r x ≡ b → (list_any (is_extent r) xs ≡ true
+      → live_bytes xs block ≡ cond (is_in block r) (rounded r.len) 0 + live_bytes (without_one r xs) block)
       → live_bytes (x ∷ xs) block ≡ cond (is_in block r) (rounded r.len) 0 + live_bytes (cond b xs (x ∷ without_one r xs)) block
   by_test true same rest =
       let one = one_extent r x same in

@@ -1,5 +1,6 @@
 -- What a page that is put makes of the entries of a map.
-use Rattle.std.proofs.Common.{◌≡◌, ◌≢◌, Bool, true, false, ℕ, ◌+◌, ◌≤◌, ⊎_elim, List, refl, sym, ap, subst, ◌∙◌, nat_eq, eqb-true, eq-eqb, Option, Some, None, Result, Ok, Err, arith}
+use Rattle.std.proofs.Common.{◌≡◌, ◌≢◌, Bool, true, false, ℕ, ◌+◌, ◌≤◌, ⊎_elim, List, refl, sym, ap, subst, ◌∙◌, nat_eq, eqb-true, eq-eqb, Option}
+use Rattle.std.proofs.Common.{Some, None, Result, Ok, Err, arith}
 use Rattle.std.proofs.Common.{◌-◌, ◌<◌, drop, length, length-take, length-drop}
 use Rattle.std.specs.Prelude.{slice_range}
 use Rattle.std.proofs.lemmas.Bool.{cases_eq}
@@ -45,7 +46,8 @@ same_part p q at n sized each =
     sym (get_part p (part p) at n k 1 refl (omega (arith, few))) ∙ (each k few ∙ get_part q (part q) at n k 1 refl (omega (arith, few))))
 
 -- an entry is what its three fields are
-pub same_entry : (p q : List ℕ) (at : ℕ) → get p at 4 ≡ get q at 4 → get p (at + 4) 4 ≡ get q (at + 4) 4 → get p (at + 8) 4 ≡ get q (at + 8) 4 → entry_in p at ≡ entry_in q at
+pub same_entry : (p q : List ℕ) (at : ℕ) → get p at 4 ≡ get q at 4 → get p (at + 4) 4 ≡ get q (at + 4) 4 → get p (at + 8) 4 ≡ get q (at + 8) 4
+    → entry_in p at ≡ entry_in q at
 unfolding entry_in
 same_entry p q at zone append free = rw (zone, append, free) refl
 
@@ -60,13 +62,15 @@ module _ (block : ℕ) (entry : Entry) (was is : List ℕ) (old new : PageMap)
   here = ap page_in (put_at (page_of block) is old new put)
 
   -- a field of another entry
-  field : (other k size : ℕ) → other ≢ block → k + size ≤ 16 → get (entry_page new other) (place_of other + k) size ≡ get (entry_page old other) (place_of other + k) size
+  field : (other k size : ℕ) → other ≢ block → k + size ≤ 16 → get (entry_page new other) (place_of other + k) size ≡ get (entry_page old other)
+      (place_of other + k) size
   field other k size apart within = ⊎_elim
       (λ (same : page_of other ≡ page_of block).
       let now : entry_page new other ≡ is = ap page_in (ap new same ∙ put_at (page_of block) is old new put) in
       let before : entry_page old other ≡ was = ap page_in (ap old same ∙ read) in
       rw (now, before) (others (place_of other + k) size (places_apart block other k size (λ e. apart (sym e)) (sym same) within)))
-      (λ elsewhere. ap (λ (o : Option (List ℕ)). get (page_in o) (place_of other + k) size) (put_other (page_of block) is old new put (page_of other) elsewhere))
+      (λ elsewhere. ap (λ (o : Option (List ℕ)). get (page_in o) (place_of other + k) size)
+      (put_other (page_of block) is old new put (page_of other) elsewhere))
       (cases_eq (page_of other) (page_of block))
 
   first : (other : ℕ) → other ≢ block → get (entry_page new other) (place_of other) 4 ≡ get (entry_page old other) (place_of other) 4
@@ -90,7 +94,8 @@ module _ (block : ℕ) (entry : Entry) (was is : List ℕ) (old new : PageMap)
   entry_is_put = record {
     put = rw here value;
     zero = rw here zero;
-    others = λ other apart. same_entry (entry_page new other) (entry_page old other) (place_of other) (first other apart) (field other 4 4 apart (omega arith)) (field other 8 4 apart (omega arith));
+    others = λ other apart. same_entry (entry_page new other) (entry_page old other) (place_of other) (first other apart)
+        (field other 4 4 apart (omega arith)) (field other 8 4 apart (omega arith));
     zeros = λ other apart. field other 12 4 apart (omega arith);
     bytes = part;
     pages = put_other (page_of block) is old new put;
@@ -106,4 +111,5 @@ told_put block entry was is old new (Err fault) read put value zero others sized
 told_put block entry was is None None (Ok x) read put value zero others sized = tt
 told_put block entry was is None (Some new) (Ok x) read put value zero others sized = put
 told_put block entry was is (Some old) None (Ok x) read put value zero others sized = put
-told_put block entry was is (Some old) (Some new) (Ok x) read put value zero others sized = entry_is_put block entry was is old new read put value zero others sized
+told_put block entry was is (Some old) (Some new) (Ok x) read put value zero others sized =
+    entry_is_put block entry was is old new read put value zero others sized

@@ -1,5 +1,7 @@
 -- A zone begins a big-block that is free: the freemap stands for the same states.
-use Rattle.std.proofs.Common.{◌≡◌, ◌≢◌, Bool, true, false, true≢false, ℕ, zero, suc, ◌+◌, ◌-◌, ◌%◌, ◌<◌, ◌≤◌, inl, ⊎_elim, List, [], ◌∷◌, ◌++◌, length, set, slice_index, slice_set, refl, sym, ap, subst, ◌∙◌, arith, cond, not, ◌&&◌, ◌||◌, nat_eq, eqb-true, eq-eqb, pos, ◌+ℤ◌}
+use Rattle.std.proofs.Common.{◌≡◌, ◌≢◌, Bool, true, false, true≢false, ℕ, zero, suc, ◌+◌, ◌-◌, ◌%◌, ◌<◌, ◌≤◌, inl, ⊎_elim, List, [], ◌∷◌, ◌++◌}
+use Rattle.std.proofs.Common.{length, set, slice_index, slice_set, refl, sym, ap, subst, ◌∙◌, arith, cond, not, ◌&&◌, ◌||◌, nat_eq, eqb-true, eq-eqb}
+use Rattle.std.proofs.Common.{pos, ◌+ℤ◌}
 use Rattle.std.specs.Prelude.{All}
 use Rattle.std.proofs.lemmas.Bool.{cases_eq, not-true}
 use Rattle.std.proofs.lemmas.List.{get_or-set_same, get_or-set_other, length-set}
@@ -81,10 +83,11 @@ set_none (x ∷ xs) zero new block none other = rw (other_test new block other) 
   or_right : (a b : Bool) → (a || b) ≡ false → b ≡ false
   or_right true b is = absurd (true≢false is)
   or_right false b is = is
-set_none (x ∷ xs) (suc k) new block none other = both (nat_eq x block) (is_append xs block) (is_append (set xs k new) block) none (λ rest. set_none xs k new block rest other) where
-  both : (a b c : Bool) → (a || b) ≡ false → (b ≡ false → c ≡ false) → (a || c) ≡ false
-  both true b c is step = is
-  both false b c is step = step is
+set_none (x ∷ xs) (suc k) new block none other = both (nat_eq x block) (is_append xs block) (is_append (set xs k new) block) none
+    (λ rest. set_none xs k new block rest other) where
+      both : (a b c : Bool) → (a || b) ≡ false → (b ≡ false → c ≡ false) → (a || c) ≡ false
+      both true b c is step = is
+      both false b c is step = step is
 
 set_same : (xs : List ℕ) (k new x : ℕ) → new ≢ x → slice_index xs k ≢ x → is_append (set xs k new) x ≡ is_append xs x
 set_same [] k new x other apart = refl
@@ -172,7 +175,8 @@ module _ (bigblocks : ℕ) (append : List ℕ) (maps : Maps) (four : length appe
     four = length-set append k block ∙ appended.four;
     pool = begun_pool appended.pool;
     zone = λ j few. ⊎_elim
-        (λ (same : j ≡ k). ap (λ (b : ℕ). (entry_of now b).zone) (ap (slice_index after) same ∙ at_place) ∙ ap (λ (e : Entry). e.zone) put.put ∙ omega (arith, same))
+        (λ (same : j ≡ k). ap (λ (b : ℕ). (entry_of now b).zone) (ap (slice_index after) same ∙ at_place) ∙ ap (λ (e : Entry). e.zone) put.put
+        ∙ omega (arith, same))
         (λ other. ap (λ (b : ℕ). (entry_of now b).zone) (at_other j other)
         ∙ ap (λ (e : Entry). e.zone) (put.others (slice_index append j) (append_apart j few)) ∙ appended.zone j few)
         (cases_eq j k);
@@ -275,7 +279,8 @@ module _ (bigblocks : ℕ) (append : List ℕ) (maps : Maps) (four : length appe
   pub room_begun : room_in (slice_set append k block) now (TREE_ZONE + k) ≡ BIGBLOCK_BYTES
   room_begun =
       let place : TREE_ZONE + k - TREE_ZONE ≡ k = omega arith in
-      let here : entry_of now (append_of after (TREE_ZONE + k)) ≡ begun (TREE_ZONE + k) = ap (λ (j : ℕ). entry_of now (slice_index after j)) place ∙ ap (entry_of now) at_place ∙ put.put in
+      let here : entry_of now (append_of after (TREE_ZONE + k)) ≡ begun (TREE_ZONE + k) =
+      ap (λ (j : ℕ). entry_of now (slice_index after j)) place ∙ ap (entry_of now) at_place ∙ put.put in
       let handed = handed_out (TREE_ZONE + k) (omega arith) (omega arith) in
       ap (λ (e : Entry). cond (is_handed_out (TREE_ZONE + k)) (BIGBLOCK_BYTES - e.append_off) 0) here ∙ ap (λ (b : Bool). cond b (BIGBLOCK_BYTES - 0) 0) handed
 

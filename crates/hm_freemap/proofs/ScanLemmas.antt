@@ -1,5 +1,6 @@
 -- What a look for free big-blocks finds, as it goes on.
-use Rattle.std.proofs.Common.{◌≡◌, Bool, true, false, ℕ, zero, suc, ◌+◌, ◌-◌, ◌<◌, ◌≤◌, ⊎_elim, List, [], ◌∷◌, ◌++◌, length, slice_index, refl, sym, ap, ◌∙◌, arith, append-nil, subst}
+use Rattle.std.proofs.Common.{◌≡◌, Bool, true, false, ℕ, zero, suc, ◌+◌, ◌-◌, ◌<◌, ◌≤◌, ⊎_elim, List, [], ◌∷◌, ◌++◌, length, slice_index, refl, sym}
+use Rattle.std.proofs.Common.{ap, ◌∙◌, arith, append-nil, subst}
 use Rattle.std.specs.Prelude.{filter, count_by}
 use Rattle.std.specs.List.{range_with_len}
 use Rattle.std.proofs.lemmas.Bool.{cases_lt}
@@ -72,7 +73,8 @@ range-append a (suc m) n =
     ap (range_with_len a) more
     ∙ ap (λ (l : List ℕ). a ∷ l) (rest ∙ ap (λ (b : ℕ). range_with_len (a + 1) m ++ range_with_len b n) at)
 
-pub range-split : (first from to : ℕ) → first ≤ from → from ≤ to → range_with_len first (to - first) ≡ range_with_len first (from - first) ++ range_with_len from (to - from)
+pub range-split : (first from to : ℕ) → first ≤ from → from ≤ to
+    → range_with_len first (to - first) ≡ range_with_len first (from - first) ++ range_with_len from (to - from)
 range-split first from to low high =
     let sum : to - first ≡ (from - first) + (to - from) = omega arith in
     let at : first + (from - first) ≡ from = omega arith in

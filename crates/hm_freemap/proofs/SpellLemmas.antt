@@ -1,5 +1,6 @@
 -- The bytes of an entry of either layer, and the fields that they make.
-use Rattle.std.proofs.Common.{◌≡◌, inl, inr, ℕ, zero, suc, ◌+◌, ◌-◌, ◌/◌, ◌%◌, ◌^◌, ◌<◌, ◌≤◌, List, [], ◌++◌, length, take, drop, replicate, slice_index, refl, sym, ap, ◌∙◌, arith, length-take, length-drop, append-nil}
+use Rattle.std.proofs.Common.{◌≡◌, inl, inr, ℕ, zero, suc, ◌+◌, ◌-◌, ◌/◌, ◌%◌, ◌^◌, ◌<◌, ◌≤◌, List, [], ◌++◌, length, take, drop, replicate}
+use Rattle.std.proofs.Common.{slice_index, refl, sym, ap, ◌∙◌, arith, length-take, length-drop, append-nil}
 use Rattle.std.specs.Prelude.{slice_range, FitsSigned}
 use Rattle.std.specs.Int.{w32, cast_signed, cast_unsigned, bytes_low_first}
 use Rattle.std.proofs.lemmas.Bool.{cases_lt}

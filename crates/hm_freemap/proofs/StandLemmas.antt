@@ -10,7 +10,8 @@ use Rattle.hm_fields.specs.Pages.{PageMap}
 use Rattle.hm_freemap.specs.Entry.{IsPoolEntry}
 use Rattle.hm_freemap.specs.Extents.{with_current}
 use Rattle.hm_freemap.specs.Places.{place_of}
-use Rattle.hm_freemap.specs.Stand.{Maps, StandBy, Tells, HoldsPoolEntry, IsBelow, AreAppended, EntryChanged, EntryPut, all_of, home_of, entry_of, entry_page, room_in, is_handed_out, append_of}
+use Rattle.hm_freemap.specs.Stand.{Maps, StandBy, Tells, HoldsPoolEntry, IsBelow, AreAppended, EntryChanged, EntryPut, all_of, home_of, entry_of}
+use Rattle.hm_freemap.specs.Stand.{entry_page, room_in, is_handed_out, append_of}
 use Rattle.hm_freemap.specs.declared.entry.Entry.{Entry}
 
 -- what was put in place of an entry that was read
@@ -75,7 +76,8 @@ module _ (block : ℕ) (next : Entry) (was now : PageMap) (put : EntryPut block 
       })
       (cases_eq b block)
 
-  pub appended_after : (bigblocks : ℕ) (append : List ℕ) → next.zone ≡ (entry_of was block).zone → AreAppended bigblocks append was → AreAppended bigblocks append now
+  pub appended_after : (bigblocks : ℕ) (append : List ℕ) → next.zone ≡ (entry_of was block).zone → AreAppended bigblocks append was
+      → AreAppended bigblocks append now
   appended_after bigblocks append same appended = record {
     four = appended.four;
     pool = appended.pool;

@@ -1,5 +1,6 @@
 -- One zone after the other begins a big-block.
-use Rattle.std.proofs.Common.{◌≡◌, ◌≢◌, Bool, true, false, true≢false, ℕ, ◌+◌, ◌^◌, ◌<◌, ◌≤◌, inl, inr, ◌⊎◌, ⊎_elim, List, length, slice_index, slice_set, refl, sym, ap, subst, ◌∙◌, arith, cond, Option, Some, None}
+use Rattle.std.proofs.Common.{◌≡◌, ◌≢◌, Bool, true, false, true≢false, ℕ, ◌+◌, ◌^◌, ◌<◌, ◌≤◌, inl, inr, ◌⊎◌, ⊎_elim, List, length, slice_index}
+use Rattle.std.proofs.Common.{slice_set, refl, sym, ap, subst, ◌∙◌, arith, cond, Option, Some, None}
 use Rattle.std.proofs.lemmas.Bool.{cases_eq}
 use Rattle.std.proofs.lemmas.List.{get_or-set_same, get_or-set_other, length-set}
 use Rattle.std.proofs.lemmas.List.Sums.{count_by_more_yes, count_by_more_no, sum_by-take-le}
@@ -56,7 +57,8 @@ module _ (lack : List Bool) (fresh : List ℕ) (k : ℕ) (append0 append' : List
   -- a zone that has room
   step_none : lacks_at lack k ≡ false → Renewing lack fresh (k + 1) (count_first lack (k + 1)) append0 append' old mid
   step_none has =
-      let same : count_first lack (k + 1) ≡ count_first lack k = first_more lack k (omega (arith, four)) ∙ (let zero : bit (lacks_at lack k) ≡ 0 = ap bit has in omega (arith, zero)) in
+      let same : count_first lack (k + 1) ≡ count_first lack k = first_more lack k (omega (arith, four))
+      ∙ (let zero : bit (lacks_at lack k) ≡ 0 = ap bit has in omega (arith, zero)) in
       let passed : (j : ℕ) → j < k + 1 → lacks_at lack j ≡ true → j < k = λ j early lacks. ⊎_elim
       (λ (here : j ≡ k). absurd (true≢false (sym lacks ∙ (ap (lacks_at lack) here ∙ has))))
       (λ other. omega (arith, early, other))
@@ -90,7 +92,8 @@ module _ (lack : List Bool) (fresh : List ℕ) (k : ℕ) (append0 append' : List
   step_some lacks small now put =
       let next = count_first lack k in
       let block = slice_index fresh next in
-      let one : count_first lack (k + 1) ≡ next + 1 = first_more lack k (omega (arith, four)) ∙ (let bits : bit (lacks_at lack k) ≡ 1 = ap bit lacks in omega (arith, bits)) in
+      let one : count_first lack (k + 1) ≡ next + 1 = first_more lack k (omega (arith, four))
+      ∙ (let bits : bit (lacks_at lack k) ≡ 1 = ap bit lacks in omega (arith, bits)) in
       let inside : next < count_of lack = omega (arith, one, first_few lack (k + 1)) in
       record {
         four = length-set append' k block ∙ renewing.four;
@@ -178,11 +181,13 @@ told_step lack fresh k next append0 append' append'' lacks block (Some x) (Some 
           subst (λ (n : ℕ). Renewing lack fresh (k + 1) n append0 append'' x z) (counted false same)
           (rw (begins.0, begins.1) (step_none lack fresh k append0 append' x y low four was (sym same)))
       by_test true same begins =
-          let put : EntryPut (slice_index fresh (count_first lack k)) (begun (TREE_ZONE + k)) y z = subst (λ (b : ℕ). EntryPut b (begun (TREE_ZONE + k)) y z) place begins.1 in
+          let put : EntryPut (slice_index fresh (count_first lack k)) (begun (TREE_ZONE + k)) y z =
+          subst (λ (b : ℕ). EntryPut b (begun (TREE_ZONE + k)) y z) place begins.1 in
           let done = step_some lack fresh k append0 append' x y low four was (sym same) (subst (λ (b : ℕ). b < 2 ^ 32) place small) z put in
           subst (λ (n : ℕ). Renewing lack fresh (k + 1) n append0 append'' x z) (counted true same)
           (subst (λ (l : List ℕ). Renewing lack fresh (k + 1) (count_first lack (k + 1)) append0 l x z) (sym (begins.0 ∙ ap (slice_set append' k) place)) done)
 
-pub told_none : (lack : List Bool) (fresh append : List ℕ) (told : Option PageMap) → length append ≡ 4 → BothTell told told (Renewing lack fresh 0 0 append append)
+pub told_none : (lack : List Bool) (fresh append : List ℕ) (told : Option PageMap) → length append ≡ 4
+    → BothTell told told (Renewing lack fresh 0 0 append append)
 told_none lack fresh append None four = tt
 told_none lack fresh append (Some map) four = renewing_none lack fresh append map four

@@ -66,7 +66,8 @@ pub is_handed : (zone : ℕ) → is_handed_out zone ≡ true → (TREE_ZONE ≤ 
 is_handed zone is = grind (arith, nat_tests)
 
 -- a zone that has room is one that space is handed out in
-pub zone_of_room : (append : List ℕ) (current : Option PageMap) (zone len : ℕ) → 1 ≤ len → rounded len ≤ room append current zone → (TREE_ZONE ≤ zone) × (zone ≤ SMALL_ZONE)
+pub zone_of_room : (append : List ℕ) (current : Option PageMap) (zone len : ℕ) → 1 ≤ len → rounded len ≤ room append current zone
+    → (TREE_ZONE ≤ zone) × (zone ≤ SMALL_ZONE)
 zone_of_room append current zone len some = by_told current where
   by_zone : (t : Bool) (n : ℕ) → is_handed_out zone ≡ t → rounded len ≤ cond t n 0 → (TREE_ZONE ≤ zone) × (zone ≤ SMALL_ZONE)
   by_zone true n is enough = is_handed zone is
@@ -138,7 +139,8 @@ module _ (bigblocks : ℕ) (append : List ℕ) (zone len at : ℕ) (maps : Maps)
       let upper = placed_high bigblocks s placed in
       ⊎_elim
       (λ (same : home_of s ≡ block).
-      let end : end_of s ≤ start_of block + (entry_of maps.current block).append_off = subst (λ (b : ℕ). end_of s ≤ start_of b + (entry_of maps.current b).append_off) same below.end in
+      let end : end_of s ≤ start_of block + (entry_of maps.current block).append_off =
+      subst (λ (b : ℕ). end_of s ≤ start_of b + (entry_of maps.current b).append_off) same below.end in
       inr (omega (arith, end, begin, ap (λ (e : Entry). e.append_off) read)))
       (λ other. ⊎_elim
       (λ (before : home_of s < block). inr (omega (arith, upper, begin, before)))
@@ -207,11 +209,13 @@ module _ (bigblocks : ℕ) (append : List ℕ) (zone len at : ℕ) (maps : Maps)
         let rest = states.frozen ++ states.committed in
         let all = all_below bigblocks append maps states stand block next now put zone_same grown in
         let placed : All (IsPlaced bigblocks) (r ∷ states.current ++ rest) = All-cons (IsPlaced bigblocks) r (all_of states) taken_placed stand.placed in
-        let overlap : All (DoNotOverlap r) (all_of states) = All-weaker (IsApart (reference at len)) (DoNotOverlap r) (λ s apart. inr apart) (all_of states) dead in
+        let overlap : All (DoNotOverlap r) (all_of states) = All-weaker (IsApart (reference at len)) (DoNotOverlap r) (λ s apart. inr apart)
+        (all_of states) dead in
         let apart : NoneOverlap (r ∷ states.current ++ rest) = (overlap, stand.apart) in
         let old = live_bytes states.current block in
         let sum : live_bytes (r ∷ states.current) block ≡ rounded len + old = here r block old (sym home) in
-        let most = live_few bigblocks block (r ∷ states.current) (all_left (IsPlaced bigblocks) (r ∷ states.current) rest placed) (apart_left (r ∷ states.current) rest apart) taken_few in
+        let most = live_few bigblocks block (r ∷ states.current) (all_left (IsPlaced bigblocks) (r ∷ states.current) rest placed)
+        (apart_left (r ∷ states.current) rest apart) taken_few in
         let before : entry.bytes_free +ℤ pos old ≡ pos BIGBLOCK_BYTES =
         subst (λ (e : Entry). e.bytes_free +ℤ pos old ≡ pos BIGBLOCK_BYTES) (sym read) (stand.current block taken_pool).free in
         let tells = free_less entry.bytes_free (rounded len) old before (omega (arith, sum, most)) in
@@ -242,22 +246,28 @@ module _ (bigblocks : ℕ) (append : List ℕ) (zone len at : ℕ) (maps : Maps)
         let is : nat_eq other zone ≡ true = eq-eqb other zone same in
         let handed : is_handed_out other ≡ true = ap is_handed_out same ∙ handed_out zone low high in
         let at_zone : append_of append other ≡ block = ap (append_of append) same ∙ sym one in
-        let here : (entry_of now (append_of append other)).append_off ≡ entry.append_off + rounded len = ap (λ (b : ℕ). (entry_of now b).append_off) at_zone ∙ ap (λ (e : Entry). e.append_off) put.put in
-        let there : (entry_of maps.current (append_of append other)).append_off ≡ entry.append_off = ap (λ (b : ℕ). (entry_of maps.current b).append_off) at_zone ∙ ap (λ (e : Entry). e.append_off) (sym read) in
+        let here : (entry_of now (append_of append other)).append_off ≡ entry.append_off + rounded len =
+        ap (λ (b : ℕ). (entry_of now b).append_off) at_zone ∙ ap (λ (e : Entry). e.append_off) put.put in
+        let there : (entry_of maps.current (append_of append other)).append_off ≡ entry.append_off =
+        ap (λ (b : ℕ). (entry_of maps.current b).append_off) at_zone ∙ ap (λ (e : Entry). e.append_off) (sym read) in
         room_fell is handed here there)
         (λ apart. by_zone apart (is_handed_out other) refl)
         (cases_eq other zone) where
-          room_fell : nat_eq other zone ≡ true → is_handed_out other ≡ true → (entry_of now (append_of append other)).append_off ≡ entry.append_off + rounded len
+          room_fell : nat_eq other zone ≡ true → is_handed_out other ≡ true
+              → (entry_of now (append_of append other)).append_off ≡ entry.append_off + rounded len
               → (entry_of maps.current (append_of append other)).append_off ≡ entry.append_off
               → room_in append now other + in_zone zone (rounded len) other ≡ room_in append maps.current other
           room_fell is handed here there =
               let all = room.room in
-              let a : room_in append now other ≡ BIGBLOCK_BYTES - (entry_of now (append_of append other)).append_off = ap (λ (t : Bool). cond t (BIGBLOCK_BYTES - (entry_of now (append_of append other)).append_off) 0) handed in
-              let b : room_in append maps.current other ≡ BIGBLOCK_BYTES - (entry_of maps.current (append_of append other)).append_off = ap (λ (t : Bool). cond t (BIGBLOCK_BYTES - (entry_of maps.current (append_of append other)).append_off) 0) handed in
+              let a : room_in append now other ≡ BIGBLOCK_BYTES - (entry_of now (append_of append other)).append_off =
+              ap (λ (t : Bool). cond t (BIGBLOCK_BYTES - (entry_of now (append_of append other)).append_off) 0) handed in
+              let b : room_in append maps.current other ≡ BIGBLOCK_BYTES - (entry_of maps.current (append_of append other)).append_off =
+              ap (λ (t : Bool). cond t (BIGBLOCK_BYTES - (entry_of maps.current (append_of append other)).append_off) 0) handed in
               let z : in_zone zone (rounded len) other ≡ rounded len = ap (λ (t : Bool). cond t (rounded len) 0) is in
               omega (arith, a, b, z, here, there, all)
 
-          by_zone : other ≢ zone → (t : Bool) → is_handed_out other ≡ t → room_in append now other + in_zone zone (rounded len) other ≡ room_in append maps.current other
+          by_zone : other ≢ zone → (t : Bool) → is_handed_out other ≡ t
+              → room_in append now other + in_zone zone (rounded len) other ≡ room_in append maps.current other
           by_zone apart t handed =
               let z : in_zone zone (rounded len) other ≡ 0 = ap (λ (x : Bool). cond x (rounded len) 0) (other_test other zone apart) in
               let kept : room_in append now other ≡ room_in append maps.current other = by_test t handed in
@@ -265,7 +275,8 @@ module _ (bigblocks : ℕ) (append : List ℕ) (zone len at : ℕ) (maps : Maps)
                 by_test : (x : Bool) → is_handed_out other ≡ x → room_in append now other ≡ room_in append maps.current other
                 by_test true is =
                     let zones = is_handed other is in
-                    let same : entry_of now (append_of append other) ≡ entry_of maps.current (append_of append other) = put.others (append_of append other) (other_append other zones.0 zones.1 apart) in
+                    let same : entry_of now (append_of append other) ≡ entry_of maps.current (append_of append other) =
+                    put.others (append_of append other) (other_append other zones.0 zones.1 apart) in
                     ap (λ (e : Entry). cond (is_handed_out other) (BIGBLOCK_BYTES - e.append_off) 0) same
                 by_test false is = ap (λ (x : Bool). cond x (BIGBLOCK_BYTES - (entry_of now (append_of append other)).append_off) 0) is
                     ∙ sym (ap (λ (x : Bool). cond x (BIGBLOCK_BYTES - (entry_of maps.current (append_of append other)).append_off) 0) is)

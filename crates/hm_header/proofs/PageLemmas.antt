@@ -1,5 +1,6 @@
 -- The first page of a body, as numbers are put into a page of zeros one after the other.
-use Rattle.std.proofs.Common.{◌≡◌, ℕ, ◌+◌, List, [], ◌++◌, length, slice_index, refl, sym, ap, ◌∙◌, append_assoc, length-append, length-drop, length-take, append-nil, take, drop, replicate, arith}
+use Rattle.std.proofs.Common.{◌≡◌, ℕ, ◌+◌, List, [], ◌++◌, length, slice_index, refl, sym, ap, ◌∙◌, append_assoc, length-append, length-drop}
+use Rattle.std.proofs.Common.{length-take, append-nil, take, drop, replicate, arith}
 use Rattle.std.proofs.lemmas.List.{take_at, drop_at, drop_all}
 use borrow.Rule.Slice.PartMut.{put_mid, mid_of, post_of}
 use Rattle.std.specs.Int.{bytes_low_first}

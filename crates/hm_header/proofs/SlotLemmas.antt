@@ -1,5 +1,6 @@
 -- Which slot counts, and that each pair of slots has one answer.
-use Rattle.std.proofs.Common.{◌≡◌, inl, inr, ℕ, zero, suc, ◌+◌, ◌%◌, ◌^◌, ◌<◌, List, [], ◌∷◌, ◌++◌, length, take, slice_index, refl, sym, ap, subst, ◌∙◌, lit<, arith, length-append, append_assoc}
+use Rattle.std.proofs.Common.{◌≡◌, inl, inr, ℕ, zero, suc, ◌+◌, ◌%◌, ◌^◌, ◌<◌, List, [], ◌∷◌, ◌++◌, length, take, slice_index, refl, sym, ap, subst}
+use Rattle.std.proofs.Common.{◌∙◌, lit<, arith, length-append, append_assoc}
 use Rattle.std.proofs.lemmas.List.{get_or-append_right, get_or_past, take_at}
 use Rattle.std.proofs.lemmas.Bool.{cases_lt}
 use Rattle.hm_header.specs.declared.fault.HeaderFault.{HeaderFault}

@@ -3,7 +3,8 @@ use Rattle.std.proofs.Common.{◌≡◌, ℕ, ◌≤◌, ◌^◌, true, false, L
 use Rattle.std.specs.Prelude.{◌⊎◌, Bool, Option, Some, None, if◌then◌else◌}
 use Rattle.std.specs.Option.{option_map_or}
 use Rattle.hm_types.specs.Intervals.{Keeps, open_end}
-use Rattle.hm_model.specs.After.{State, accepted_effect, fed_from, next_stream, of_pfs, on_volume, origin_of, present_only, retaining, stream_origin, with_origin}
+use Rattle.hm_model.specs.After.{State, accepted_effect, fed_from, next_stream, of_pfs, on_volume, origin_of, present_only, retaining, stream_origin}
+use Rattle.hm_model.specs.After.{with_origin}
 use Rattle.hm_model.specs.Call.{Call, first_site, own_id, second_site}
 use Rattle.hm_model.specs.Change.{change, changed, changed_pfs, new_slave}
 use Rattle.hm_model.specs.Cut.{cut, greatest, pruned, single, within}

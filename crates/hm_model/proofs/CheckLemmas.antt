@@ -7,13 +7,19 @@ use Rattle.std.specs.Option.{option_map_or}
 use Rattle.hm_types.specs.declared.id.Obj.{Obj}
 use Rattle.hm_types.specs.declared.limits.TheConstants.{GREATEST_ID, MOST_INTERVALS}
 use Rattle.hm_model.specs.declared.command.Command.{Command}
-use Rattle.hm_model.specs.declared.command.Command.TheVariants.{Mkdir, Touch, Symlink, Snapshot, Ln, Mv, Write, Fill, Truncate, Rm, Rmdir, Ls, Cat, Readlink, Prune, PfsMaster, PfsSlave, PfsUpgrade, MirrorRead, MirrorWrite, MirrorCopy}
+use Rattle.hm_model.specs.declared.command.Command.TheVariants.{Mkdir, Touch, Symlink, Snapshot, Ln, Mv, Write, Fill, Truncate, Rm, Rmdir, Ls, Cat}
+use Rattle.hm_model.specs.declared.command.Command.TheVariants.{Readlink, Prune, PfsMaster, PfsSlave, PfsUpgrade, MirrorRead, MirrorWrite, MirrorCopy}
 use Rattle.hm_types.specs.declared.object.Object.{Object}
 use Rattle.hm_model.specs.declared.reply.Reply.{Reply}
-use Rattle.hm_model.specs.declared.reply.Reply.TheVariants.{BadPath, Busy, Exists, Future, HashFull, IdsSpent, NotMaster, NotSlave, ReadOnly, SharedDiffers, TooManyIntervals}
+use Rattle.hm_model.specs.declared.reply.Reply.TheVariants.{BadPath, Busy, Exists, Future, HashFull, IdsSpent, NotMaster, NotSlave, ReadOnly}
+use Rattle.hm_model.specs.declared.reply.Reply.TheVariants.{SharedDiffers, TooManyIntervals}
 use Rattle.hm_model.specs.Answer.{is_master}
 use Rattle.hm_model.specs.Call.{Call, all_located, first_site, second_site, site_object, site_system, standing}
-use Rattle.hm_model.specs.Due.{Check, a_master, a_slave, checks, early_checks, first_refusal, good_path, good_paths, has_id, has_its_name, hash_is_full, hash_left, ids_left, intervals_left, is_above, is_in_slave, is_pass, is_pfs_call, is_tree_call, is_way_free, name_is_new, new_name, no_future, no_future_begin, none_open, of_system, one_shared, own_checks, own_checks_of, parts_in, past_stays, pfs_left, pruned_count, record_checks, record_checks_of, refusal, refuse_if, slaves_stay, walks, was_passed, way_is_free}
+use Rattle.hm_model.specs.Due.{Check, a_master, a_slave, checks, early_checks, first_refusal, good_path, good_paths, has_id, has_its_name}
+use Rattle.hm_model.specs.Due.{hash_is_full, hash_left, ids_left, intervals_left, is_above, is_in_slave, is_pass, is_pfs_call, is_tree_call}
+use Rattle.hm_model.specs.Due.{is_way_free, name_is_new, new_name, no_future, no_future_begin, none_open, of_system, one_shared, own_checks}
+use Rattle.hm_model.specs.Due.{own_checks_of, parts_in, past_stays, pfs_left, pruned_count, record_checks, record_checks_of, refusal, refuse_if}
+use Rattle.hm_model.specs.Due.{slaves_stay, walks, was_passed, way_is_free}
 use Rattle.hm_model.specs.Reply.{is_refusal}
 use Rattle.hm_model.specs.Sites.{BadAt, Parsed, Parts, Site, Use, uses_of}
 use Rattle.hm_model.specs.Laws.{rewrites}

@@ -11,10 +11,13 @@ use Rattle.hm_model.specs.declared.reply.Reply.TheVariants.{NotDir, NotFound, No
 use Rattle.hm_model.specs.Call.{Call, each_located, located}
 use Rattle.hm_model.specs.Due.{Check, first_refusal, walks}
 use Rattle.hm_model.specs.Reply.{is_refusal}
-use Rattle.hm_model.specs.Sites.{At, BadAt, Located, Nowhere, Parsed, Parts, Use, MakesName, TakesName, Walks, at_end, front_of, in_directory, last_name, locate, standing_name}
+use Rattle.hm_model.specs.Sites.{At, BadAt, Located, Nowhere, Parsed, Parts, Use, MakesName, TakesName, Walks, at_end, front_of, in_directory}
+use Rattle.hm_model.specs.Sites.{last_name, locate, standing_name}
 use Rattle.hm_model.specs.View.{AsOf, Position, View, When, object_at}
 use Rattle.hm_model.specs.Volume.{PseudoFileSystem, Volume}
-use Rattle.hm_model.specs.Walk.{Follow, Follows, Stays, TakesPfs, Passed, Reaches, Refuses, Walked, and_then, by_id, by_name, enter, enter_root, find_name, find_object, follow_before, from_found, is_directory, is_kept, is_seen, linked_in, look_at_root, over_link, reach, root_of, start, step, walk, walk_on}
+use Rattle.hm_model.specs.Walk.{Follow, Follows, Stays, TakesPfs, Passed, Reaches, Refuses, Walked, and_then, by_id, by_name, enter, enter_root}
+use Rattle.hm_model.specs.Walk.{find_name, find_object, follow_before, from_found, is_directory, is_kept, is_seen, linked_in, look_at_root, over_link}
+use Rattle.hm_model.specs.Walk.{reach, root_of, start, step, walk, walk_on}
 
 -- where a walk is refused, its reply refuses
 abbrev pub WalkRefuses : Walked → Type 0

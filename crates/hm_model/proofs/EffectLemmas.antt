@@ -8,7 +8,10 @@ use Rattle.hm_model.specs.declared.command.Command.{Command}
 use Rattle.hm_model.specs.declared.command.Command.TheVariants.{Prune, PruneAll, Reblock, PfsUpgrade, MirrorRead, MirrorWrite, MirrorCopy, End}
 use Rattle.hm_model.specs.declared.reply.Reply.{Reply}
 use Rattle.hm_model.specs.declared.reply.Reply.TheVariants.{Finished, Passed}
-use Rattle.hm_model.specs.After.{Event, OpenCall, State, accepted_effect, after_event, after_pass, call_of, end_effect, end_of_pass, end_of_upgrade, end_of_write, ended, fed_from, feeding, given_in, later_streams, next_stream, no_hash, nothing_merged, of_pfs, on_volume, opened_with, origin_of, present_only, retaining, stream_origin, upgraded, with_opened, with_origin, accepted_effect_of, end_effect_of}
+use Rattle.hm_model.specs.After.{Event, OpenCall, State, accepted_effect, after_event, after_pass, call_of, end_effect, end_of_pass, end_of_upgrade}
+use Rattle.hm_model.specs.After.{end_of_write, ended, fed_from, feeding, given_in, later_streams, next_stream, no_hash, nothing_merged, of_pfs}
+use Rattle.hm_model.specs.After.{on_volume, opened_with, origin_of, present_only, retaining, stream_origin, upgraded, with_opened, with_origin}
+use Rattle.hm_model.specs.After.{accepted_effect_of, end_effect_of}
 use Rattle.hm_types.specs.declared.id.Id.{Id}
 use Rattle.hm_model.specs.Call.{Call, first_site, own_id, second_site}
 use Rattle.hm_model.specs.Change.{change}

@@ -7,7 +7,9 @@ use Rattle.std.proofs.lemmas.Bool.Decides.{nat_tests}
 use Rattle.hm_path.specs.Path.{IsPath}
 use Rattle.hm_model.specs.After.{Event, State}
 use Rattle.hm_model.specs.Caused.{Counts, HasNumbers, Known, takes_stream}
-use Rattle.hm_model.specs.Examples.{a_foreign_stream, a_pruned_end, a_stream_is_sent, a_stream_of_nobody, an_upgrade, by_id, by_name, fed_with, mirror_copies, of_new_volume, of_nobody, on_fresh, on_new, new_volume, reads_of_the_past, snapshots_and_prune, stream_end}
+use Rattle.hm_model.specs.Examples.{a_foreign_stream, a_pruned_end, a_stream_is_sent, a_stream_of_nobody, an_upgrade, by_id, by_name, fed_with}
+use Rattle.hm_model.specs.Examples.{mirror_copies, of_new_volume, of_nobody, on_fresh, on_new, new_volume, reads_of_the_past, snapshots_and_prune}
+use Rattle.hm_model.specs.Examples.{stream_end}
 use Rattle.hm_model.specs.Foreign.{ForeignMaster, StreamEnd}
 use Rattle.hm_types.specs.Hash.{name_hash}
 use Rattle.hm_model.specs.Laws.{AreRising, ShowsTrees, versions_of}

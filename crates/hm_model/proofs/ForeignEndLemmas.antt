@@ -28,7 +28,8 @@ module _ (source : ℕ) (kept : ℕ → Bool) (trees : ℕ → FileTree) where
     found = is.found;
     drawn = is.drawn;
     unfed = λ role none. subst (Follows source kept trees is.own) none (is.follows role);
-    same = λ role foreign id has some by. at_found state.volume slave id is.own is.found ∙ subst (Follows source kept trees is.own) foreign (is.follows role) refl id has some by;
+    same = λ role foreign id has some by. at_found state.volume slave id is.own is.found
+        ∙ subst (Follows source kept trees is.own) foreign (is.follows role) refl id has some by;
   }
 
   follows_origin : (volume : Volume) (slave : ℕ) (f : FollowsForeign volume slave source kept trees) → f.own.role ≡ Slave → (origin : Origin) →

@@ -11,7 +11,9 @@ use Rattle.hm_retain.proofs.SetLemmas.{less_or_not}
 use Rattle.hm_model.specs.declared.command.Command.{Command}
 use Rattle.hm_model.specs.declared.command.Command.TheVariants.{End, MirrorCopy, MirrorRead, MirrorWrite, PfsUpgrade, Prune, PruneAll, Reblock}
 use Rattle.hm_model.specs.declared.reply.Reply.TheVariants.{Passed}
-use Rattle.hm_model.specs.After.{Event, OpenCall, State, accepted_effect, after_event, after_pass, call_of, effect, end_effect, end_id, end_of_pass, end_of_upgrade, ended, fed_from, given_in, is_origin, last_after, later_streams, next_stream, no_hash, nothing_merged, of_pfs, on_volume, opened_with, origin_of, stream_origin, upgraded, with_origin, accepted_effect_of}
+use Rattle.hm_model.specs.After.{Event, OpenCall, State, accepted_effect, after_event, after_pass, call_of, effect, end_effect, end_id, end_of_pass}
+use Rattle.hm_model.specs.After.{end_of_upgrade, ended, fed_from, given_in, is_origin, last_after, later_streams, next_stream, no_hash}
+use Rattle.hm_model.specs.After.{nothing_merged, of_pfs, on_volume, opened_with, origin_of, stream_origin, upgraded, with_origin, accepted_effect_of}
 use Rattle.hm_model.specs.Call.{Call, first_site, second_site}
 use Rattle.hm_model.specs.Caused.{is_ending, known_after, known_at, possible_for}
 use Rattle.hm_model.specs.Change.{change}

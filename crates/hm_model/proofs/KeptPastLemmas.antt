@@ -11,7 +11,9 @@ use Rattle.hm_model.specs.declared.command.Command.{Command}
 use Rattle.hm_model.specs.declared.command.Command.TheVariants.{End, MirrorCopy, MirrorWrite, PfsUpgrade}
 use Rattle.hm_model.specs.declared.reply.Reply.{Reply}
 use Rattle.hm_model.specs.declared.reply.Reply.TheVariants.{Cut, Finished}
-use Rattle.hm_model.specs.After.{Event, OpenCall, State, accepted_effect, after_event, after_pass, call_of, effect, end_effect, end_of_pass, end_of_upgrade, end_of_write, ended, given_in, no_hash, nothing_merged, of_pfs, opened_with, upgraded, versions_to, with_origin, end_effect_of}
+use Rattle.hm_model.specs.After.{Event, OpenCall, State, accepted_effect, after_event, after_pass, call_of, effect, end_effect, end_of_pass}
+use Rattle.hm_model.specs.After.{end_of_upgrade, end_of_write, ended, given_in, no_hash, nothing_merged, of_pfs, opened_with, upgraded, versions_to}
+use Rattle.hm_model.specs.After.{with_origin, end_effect_of}
 use Rattle.hm_model.specs.Caused.{is_ending}
 use Rattle.hm_model.specs.Laws.{EndsPass, EndsUpgrade, merges}
 use Rattle.hm_model.specs.Legal.{MayFollow, Setting, begin_of, state_after}

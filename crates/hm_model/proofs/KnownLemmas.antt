@@ -1,5 +1,6 @@
 -- What is known without trees agrees with the state.
-use Rattle.std.proofs.Common.{◌≡◌, ℕ, ◌+◌, ◌<◌, ◌≤◌, zero, suc, true, false, List, [], ◌∷◌, ◌++◌, filter, map, get_or, refl, ◌∙◌, ap, sym, subst, inl, inr, arith, eqb}
+use Rattle.std.proofs.Common.{◌≡◌, ℕ, ◌+◌, ◌<◌, ◌≤◌, zero, suc, true, false, List, [], ◌∷◌, ◌++◌, filter, map, get_or, refl, ◌∙◌, ap, sym, subst, inl}
+use Rattle.std.proofs.Common.{inr, arith, eqb}
 use Rattle.std.specs.Prelude.{◌⊎◌, Bool, Option, Some, None, find, if◌then◌else◌}
 use Rattle.std.specs.List.{AllByRecursion}
 use Rattle.hm_types.specs.declared.id.Id.{Id}
@@ -10,7 +11,8 @@ use Rattle.hm_model.specs.declared.reply.Reply.{Reply}
 use Rattle.hm_model.specs.declared.reply.Reply.TheVariants.{Done, Listing, Content, Status, Target, Synced, MadePfs, PfsIs, Space, Finished, Passed, Cut, Busy}
 use Rattle.hm_model.specs.After.{Event, OpenCall, State, accepted_effect, after_event, call_of, effect, ended, no_hash, on_volume, accepted_effect_of}
 use Rattle.hm_model.specs.Call.{Call, own_id}
-use Rattle.hm_model.specs.Caused.{IsFree, IsPossible, Known, early_refusal, is_ending, is_housekeeping, known_after_entry, known_busy, number_of, opens, still_open}
+use Rattle.hm_model.specs.Caused.{IsFree, IsPossible, Known, early_refusal, is_ending, is_housekeeping, known_after_entry, known_busy, number_of}
+use Rattle.hm_model.specs.Caused.{opens, still_open}
 use Rattle.hm_model.specs.Change.{change}
 use Rattle.hm_model.specs.Due.{Check, first_refusal, good_paths, is_pass, is_tree_call, no_future, no_future_begin, none_open, past_stays}
 use Rattle.hm_model.specs.Sites.{Use, uses_of}

@@ -3,14 +3,17 @@ use Rattle.std.proofs.Common.{◌≡◌, ℕ, true, false, List, [], ◌∷◌, 
 use Rattle.std.specs.Prelude.{Bool, Option, Some, None, if◌then◌else◌}
 use Rattle.std.specs.Option.{option_map_or}
 use Rattle.hm_model.specs.declared.command.Command.{Command}
-use Rattle.hm_model.specs.declared.command.Command.TheVariants.{Ls, Cat, Stat, Readlink, Sync, Synctid, PfsMaster, PfsSlave, PfsStatus, PfsUpgrade, MirrorRead, MirrorWrite, MirrorCopy, Df, Progress}
+use Rattle.hm_model.specs.declared.command.Command.TheVariants.{Ls, Cat, Stat, Readlink, Sync, Synctid, PfsMaster, PfsSlave, PfsStatus, PfsUpgrade}
+use Rattle.hm_model.specs.declared.command.Command.TheVariants.{MirrorRead, MirrorWrite, MirrorCopy, Df, Progress}
 use Rattle.hm_types.specs.declared.object.Object.{Object}
 use Rattle.hm_model.specs.declared.reply.Reply.{Reply}
-use Rattle.hm_model.specs.declared.reply.Reply.TheVariants.{Content as Bytes, Done, Listing, MadePfs, Media, NoMemory, NoSpace, NotFound, Status, Target as Text}
+use Rattle.hm_model.specs.declared.reply.Reply.TheVariants.{Content as Bytes, Done, Listing, MadePfs, Media, NoMemory, NoSpace, NotFound, Status}
+use Rattle.hm_model.specs.declared.reply.Reply.TheVariants.{Target as Text}
 use Rattle.hm_model.specs.Answer.{answer, answer_at, file_bytes, kind_number, listing, record_of, size_of, target_of}
 use Rattle.hm_model.specs.Bytes.{read_at}
 use Rattle.hm_model.specs.Call.{Call, all_located, first_site, second_site, site_object, site_system}
-use Rattle.hm_model.specs.Due.{Check, accepted, early_checks, first_refusal, hash_left, ids_left, intervals_left, name_is_new, new_pfs, own_checks, own_checks_of, pfs_left, record_checks_of, refusal, slaves_stay, walks}
+use Rattle.hm_model.specs.Due.{Check, accepted, early_checks, first_refusal, hash_left, ids_left, intervals_left, name_is_new, new_pfs, own_checks}
+use Rattle.hm_model.specs.Due.{own_checks_of, pfs_left, record_checks_of, refusal, slaves_stay, walks}
 use Rattle.hm_model.specs.Legal.{IsAccepted, IsDue, IsException, IsReply, IsSpace, IsSynced, Lands, NamesAdded}
 use Rattle.hm_model.specs.Reply.{is_refusal}
 use Rattle.hm_model.specs.Sites.{Site}

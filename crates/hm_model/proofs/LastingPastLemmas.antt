@@ -10,7 +10,9 @@ use Rattle.hm_model.specs.declared.command.Command.{Command}
 use Rattle.hm_model.specs.declared.command.Command.TheVariants.{End, MirrorCopy, MirrorWrite, PfsUpgrade}
 use Rattle.hm_model.specs.declared.reply.Reply.{Reply}
 use Rattle.hm_model.specs.declared.reply.Reply.TheVariants.{Passed}
-use Rattle.hm_model.specs.After.{Event, OpenCall, State, accepted_effect, after_event, after_pass, call_of, effect, end_effect, end_of_pass, end_of_upgrade, end_of_write, ended, given_in, last_after, no_hash, nothing_merged, of_pfs, opened_with, opening_state, upgraded, with_origin}
+use Rattle.hm_model.specs.After.{Event, OpenCall, State, accepted_effect, after_event, after_pass, call_of, effect, end_effect, end_of_pass}
+use Rattle.hm_model.specs.After.{end_of_upgrade, end_of_write, ended, given_in, last_after, no_hash, nothing_merged, of_pfs, opened_with}
+use Rattle.hm_model.specs.After.{opening_state, upgraded, with_origin}
 use Rattle.hm_model.specs.Caused.{is_ending}
 use Rattle.hm_model.specs.Due.{is_pass}
 use Rattle.hm_model.specs.Laws.{IsSteadyMaster, IsUnfed, is_rewriter, merges, rewrites}

@@ -1,5 +1,6 @@
 -- That a master's last interval has an open end.
-use Rattle.std.proofs.Common.{◌≡◌, ℕ, ◌+◌, ◌-◌, ◌<◌, ◌≤◌, ◌^◌, true, false, List, [], ◌∷◌, ◌++◌, filter, refl, ◌∙◌, ap, sym, subst, inl, inr, arith, append_assoc}
+use Rattle.std.proofs.Common.{◌≡◌, ℕ, ◌+◌, ◌-◌, ◌<◌, ◌≤◌, ◌^◌, true, false, List, [], ◌∷◌, ◌++◌, filter, refl, ◌∙◌, ap, sym, subst, inl, inr, arith}
+use Rattle.std.proofs.Common.{append_assoc}
 use Rattle.std.proofs.lemmas.List.{append-nil}
 use Rattle.std.proofs.lemmas.Bool.Decides.{nat_tests}
 use Rattle.std.specs.Prelude.{Bool, Option, Some, None, if◌then◌else◌}
@@ -9,7 +10,8 @@ use Rattle.hm_types.specs.declared.text.Text.{Text}
 use Rattle.hm_types.specs.Intervals.{Keeps, open_end}
 use Rattle.hm_retain.specs.Intervals.{RiseFrom}
 use Rattle.hm_model.specs.declared.command.Command.TheVariants.{PfsMaster}
-use Rattle.hm_model.specs.After.{Event, State, accepted_effect, after_event, call_of, effect, fed_from, next_stream, no_hash, of_pfs, on_volume, opening_state, origin_of, present_only, retaining, stream_origin, with_origin}
+use Rattle.hm_model.specs.After.{Event, State, accepted_effect, after_event, call_of, effect, fed_from, next_stream, no_hash, of_pfs, on_volume}
+use Rattle.hm_model.specs.After.{opening_state, origin_of, present_only, retaining, stream_origin, with_origin}
 use Rattle.hm_model.specs.Call.{Call, call_shown, first_site, own_id, second_site, site_tree}
 use Rattle.hm_model.specs.Caused.{known_at}
 use Rattle.hm_model.specs.Change.{change, changed, changed_pfs, new_slave}

@@ -7,7 +7,8 @@ use Rattle.std.specs.Prelude.{◌&&◌, ◌||◌, Bool, Option, Some, None, if�
 use Rattle.std.specs.List.{AllByRecursion, list_any}
 use Rattle.std.specs.Option.{option_map_or}
 use Rattle.hm_model.specs.declared.reply.Reply.{Reply}
-use Rattle.hm_model.specs.After.{Event, OpenCall, State, accepted_effect, after_event, after_pass, call_of, effect, end_effect, end_of_pass, ended, given_in, no_hash, nothing_merged, of_pfs, opened_with, opening_state, upgraded, with_origin}
+use Rattle.hm_model.specs.After.{Event, OpenCall, State, accepted_effect, after_event, after_pass, call_of, effect, end_effect, end_of_pass, ended}
+use Rattle.hm_model.specs.After.{given_in, no_hash, nothing_merged, of_pfs, opened_with, opening_state, upgraded, with_origin}
 use Rattle.hm_model.specs.Call.{Call, first_site, second_site}
 use Rattle.hm_model.specs.Caused.{IsPossible, Known, early_refusal, is_ending, known_after, known_after_entry, known_at, possible_for}
 use Rattle.hm_model.specs.Due.{is_pass}

@@ -5,7 +5,8 @@ use Rattle.std.specs.List.{list_any}
 use Rattle.std.specs.Option.{option_or}
 use Rattle.hm_types.specs.declared.id.Obj.{Obj}
 use Rattle.hm_model.specs.declared.command.Command.{Command}
-use Rattle.hm_model.specs.declared.command.Command.TheVariants.{Mkdir, Touch, Symlink, Snapshot, Ln, Mv, Write, Fill, Truncate, Rm, Rmdir, Ls, Cat, Stat, Readlink}
+use Rattle.hm_model.specs.declared.command.Command.TheVariants.{Mkdir, Touch, Symlink, Snapshot, Ln, Mv, Write, Fill, Truncate, Rm, Rmdir, Ls, Cat}
+use Rattle.hm_model.specs.declared.command.Command.TheVariants.{Stat, Readlink}
 use Rattle.hm_model.specs.declared.reply.Reply.{Reply}
 use Rattle.hm_types.specs.Tree.{FileTree}
 use Rattle.hm_model.specs.Sites.{Parsed}

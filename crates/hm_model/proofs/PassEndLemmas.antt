@@ -9,7 +9,8 @@ use Rattle.hm_model.specs.declared.reply.Reply.{Reply}
 use Rattle.hm_model.specs.declared.reply.Reply.TheVariants.{Passed}
 use Rattle.hm_types.specs.declared.text.Text.{Text}
 use Rattle.hm_model.specs.Foreign.{Feed, ForeignMaster, StreamEnd, brought}
-use Rattle.hm_model.specs.After.{Event, Given, OpenCall, State, accepted_effect, after_event, after_pass, call_of, end_effect, end_of_pass, ended, given_by, given_in, no_hash, nothing_given, origin_of, end_effect_of}
+use Rattle.hm_model.specs.After.{Event, Given, OpenCall, State, accepted_effect, after_event, after_pass, call_of, end_effect, end_of_pass, ended}
+use Rattle.hm_model.specs.After.{given_by, given_in, no_hash, nothing_given, origin_of, end_effect_of}
 use Rattle.hm_model.specs.Call.{Call}
 use Rattle.hm_model.specs.Laws.{AreRising, EndsPass, merges, versions_of}
 use Rattle.hm_model.specs.Legal.{IsAllowed, IsBrought, IsEnding, IsPassed, MayFollow, Setting, begin_of, call_after, enters_unclear, floor_after, state_after}

@@ -14,7 +14,8 @@ use Rattle.hm_types.specs.Tree.{FileTree}
 use Rattle.hm_model.specs.Volume.{fresh_with}
 use Rattle.hm_model.specs.Sites.{Use, MakesName, Parsed, Parts, IsParsed, Site, At, locate, no_site, uses_of}
 use Rattle.hm_model.specs.Call.{Call, all_located, each_located}
-use Rattle.hm_model.specs.Due.{Check, early_checks, first_refusal, good_path, good_paths, has_id, hash_left, ids_left, intervals_left, own_checks, refusal, slaves_stay, walks}
+use Rattle.hm_model.specs.Due.{Check, early_checks, first_refusal, good_path, good_paths, has_id, hash_left, ids_left, intervals_left, own_checks}
+use Rattle.hm_model.specs.Due.{refusal, slaves_stay, walks}
 use Rattle.hm_model.specs.Plain.{IsRead, IsUnread, LeadsNowhere, LeadsTo, locate_in, plain_view, site_of, use_needing}
 use Rattle.hm_model.specs.PlainCall.{IsDueRefusal, IsPlaced, IsServed, ReadsNow, StopsCall, inner_call, located_at, needs_name, use_of}
 use Rattle.hm_model.proofs.PlainCheckLemmas.{early_fail, early_pass, first_none, first_some, or_false}

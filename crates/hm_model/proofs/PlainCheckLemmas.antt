@@ -14,7 +14,8 @@ use Rattle.hm_model.specs.declared.reply.Reply.{Reply}
 use Rattle.hm_model.specs.declared.reply.Reply.TheVariants.{Busy, Future, IdsSpent, ReadOnly}
 use Rattle.hm_types.specs.Tree.{FileTree}
 use Rattle.hm_model.specs.Sites.{Parsed, Parts, BadAt, IsParsed, Use, uses_of}
-use Rattle.hm_model.specs.Due.{Check, early_checks, first_refusal, good_paths, has_id, ids_left, is_above, is_pass, is_pfs_call, is_tree_call, no_future, no_future_begin, none_open, past_stays, refuse_if}
+use Rattle.hm_model.specs.Due.{Check, early_checks, first_refusal, good_paths, has_id, ids_left, is_above, is_pass, is_pfs_call, is_tree_call}
+use Rattle.hm_model.specs.Due.{no_future, no_future_begin, none_open, past_stays, refuse_if}
 use Rattle.hm_model.specs.PlainCall.{IsServed, inner_call}
 
 -- where the first checks pass, the next decide, and where one fails, they do not

@@ -17,7 +17,8 @@ use Rattle.hm_model.specs.Volume.{PseudoFileSystem, as_of, fresh_with, new_maste
 use Rattle.hm_model.specs.View.{View, When, Now, AsOf, is_clear, own_tree, substituted, view_of}
 use Rattle.hm_model.specs.Sites.{Use, Parsed, Site, At, uses_of}
 use Rattle.hm_model.specs.Call.{Call, all_located, first_of, first_site, second_of, second_site}
-use Rattle.hm_model.specs.Due.{Check, accepted, checks, due, early_checks, first_refusal, hash_left, ids_left, intervals_left, is_in_slave, is_tree_call, own_checks, refusal, slaves_stay, walks}
+use Rattle.hm_model.specs.Due.{Check, accepted, checks, due, early_checks, first_refusal, hash_left, ids_left, intervals_left, is_in_slave}
+use Rattle.hm_model.specs.Due.{is_tree_call, own_checks, refusal, slaves_stay, walks}
 use Rattle.hm_model.specs.Plain.{plain_view, site_of}
 use Rattle.hm_model.specs.PlainCall.{IsDueRefusal, IsLook, IsLooked, IsPlaced, IsServed, ReadsNow, call_on, inner_call, located_at, plain_call}
 use Rattle.hm_model.specs.PlainChecks.{answered_at, own_at}

@@ -8,7 +8,8 @@ use Rattle.hm_model.specs.declared.command.Command.{Command}
 use Rattle.hm_model.specs.declared.command.Command.TheVariants.{End, MirrorCopy, MirrorWrite, PfsUpgrade}
 use Rattle.hm_model.specs.declared.reply.Reply.{Reply}
 use Rattle.hm_model.specs.declared.reply.Reply.TheVariants.{Finished, Passed}
-use Rattle.hm_model.specs.After.{Event, OpenCall, State, accepted_effect, call_of, effect, end_effect, end_of_pass, end_of_upgrade, end_of_write, ended, no_hash, nothing_merged, opened_with, with_origin, end_effect_of}
+use Rattle.hm_model.specs.After.{Event, OpenCall, State, accepted_effect, call_of, effect, end_effect, end_of_pass, end_of_upgrade, end_of_write}
+use Rattle.hm_model.specs.After.{ended, no_hash, nothing_merged, opened_with, with_origin, end_effect_of}
 use Rattle.hm_model.specs.Caused.{is_ending}
 use Rattle.hm_model.specs.Laws.{IsButOrigin}
 use Rattle.hm_model.specs.Command.{named_opening}

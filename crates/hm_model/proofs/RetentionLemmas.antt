@@ -6,7 +6,8 @@ use Rattle.hm_retain.specs.Retention.{IsCut, IsJoin}
 use Rattle.hm_retain.proofs.SameLemmas.{same_list}
 use Rattle.hm_model.specs.Cut.{cut, join, single, within}
 use Rattle.hm_types.specs.Intervals.{open_end}
-use Rattle.hm_model.proofs.IntervalLemmas.{Keeps-append, Keeps-maximal, Keeps-single, Keeps-within, RiseFrom-maximal, among_listed, both_intervals, each_interval, listed_among, single_intervals, within_intervals}
+use Rattle.hm_model.proofs.IntervalLemmas.{Keeps-append, Keeps-maximal, Keeps-single, Keeps-within, RiseFrom-maximal, among_listed, both_intervals}
+use Rattle.hm_model.proofs.IntervalLemmas.{each_interval, listed_among, single_intervals, within_intervals}
 
 -- one list alone of maximal intervals stands for a set
 pub alone : (Set : ℕ → Type 0) (a b : List (ℕ × ℕ)) → IsIntervals a → IsIntervals b → KeepsExactly a Set → KeepsExactly b Set → a ≡ b

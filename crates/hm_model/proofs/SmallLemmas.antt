@@ -1,5 +1,6 @@
 -- How many intervals the retentions have in a legal history.
-use Rattle.std.proofs.Common.{◌≡◌, ◌≢◌, ℕ, ◌+◌, ◌<◌, ◌≤◌, ◌-◌, ◌^◌, eqb, max, min, true, false, List, [], ◌∷◌, ◌++◌, length, refl, ◌∙◌, ap, sym, subst, inl, inr, arith, append_assoc}
+use Rattle.std.proofs.Common.{◌≡◌, ◌≢◌, ℕ, ◌+◌, ◌<◌, ◌≤◌, ◌-◌, ◌^◌, eqb, max, min, true, false, List, [], ◌∷◌, ◌++◌, length, refl, ◌∙◌, ap, sym}
+use Rattle.std.proofs.Common.{subst, inl, inr, arith, append_assoc}
 use Rattle.std.proofs.lemmas.List.{append-nil}
 use Rattle.std.proofs.lemmas.Bool.Decides.{nat_tests}
 use Rattle.std.specs.Prelude.{Bool, Option, Some, None, if◌then◌else◌}
@@ -13,7 +14,9 @@ use Rattle.hm_model.specs.declared.command.Command.{Command}
 use Rattle.hm_model.specs.declared.command.Command.TheVariants.{End, Prune, PruneAll, Reblock, PfsUpgrade, MirrorRead, MirrorWrite, MirrorCopy}
 use Rattle.hm_model.specs.declared.reply.Reply.{Reply}
 use Rattle.hm_model.specs.declared.reply.Reply.TheVariants.{TooManyIntervals}
-use Rattle.hm_model.specs.After.{Event, OpenCall, State, accepted_effect, after_event, after_pass, call_of, effect, end_effect, end_of_pass, ended, fed_from, given_in, next_stream, no_hash, nothing_merged, of_pfs, on_volume, opened_end, opened_with, opening_state, origin_of, present_only, retaining, stream_origin, upgraded, with_origin, accepted_effect_of}
+use Rattle.hm_model.specs.After.{Event, OpenCall, State, accepted_effect, after_event, after_pass, call_of, effect, end_effect, end_of_pass, ended}
+use Rattle.hm_model.specs.After.{fed_from, given_in, next_stream, no_hash, nothing_merged, of_pfs, on_volume, opened_end, opened_with, opening_state}
+use Rattle.hm_model.specs.After.{origin_of, present_only, retaining, stream_origin, upgraded, with_origin, accepted_effect_of}
 use Rattle.hm_model.specs.Call.{Call, call_shown, each_located, first_of, first_site, own_id, second_site, site_system, site_tree}
 use Rattle.hm_model.specs.Caused.{is_ending, writes_stream}
 use Rattle.hm_model.specs.Change.{change, changed, changed_pfs, new_slave}

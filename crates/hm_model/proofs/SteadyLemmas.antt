@@ -6,7 +6,8 @@ use Rattle.std.specs.List.{list_any}
 use Rattle.std.proofs.lemmas.Bool.Decides.{nat_tests}
 use Rattle.hm_model.specs.declared.command.Command.{Command}
 use Rattle.hm_model.specs.declared.command.Command.TheVariants.{Prune, PruneAll, Reblock, PfsUpgrade, MirrorRead, MirrorWrite, MirrorCopy, End}
-use Rattle.hm_model.specs.After.{Event, OpenCall, State, accepted_effect, after_event, call_of, effect, ended, last_after, next_stream, no_hash, of_pfs, on_volume, opening_state, present_only, retaining, with_opened, accepted_effect_of}
+use Rattle.hm_model.specs.After.{Event, OpenCall, State, accepted_effect, after_event, call_of, effect, ended, last_after, next_stream, no_hash}
+use Rattle.hm_model.specs.After.{of_pfs, on_volume, opening_state, present_only, retaining, with_opened, accepted_effect_of}
 use Rattle.hm_model.specs.Answer.{is_master}
 use Rattle.hm_model.specs.Call.{Call, each_located, first_of, first_site, own_id, second_of, second_site}
 use Rattle.hm_model.specs.Caused.{is_ending}

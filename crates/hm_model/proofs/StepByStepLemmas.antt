@@ -11,7 +11,8 @@ use Rattle.hm_model.specs.declared.entry.Entry.{Entry}
 use Rattle.hm_model.specs.declared.reply.Reply.{Reply}
 use Rattle.hm_model.specs.After.{Event, OpenCall, State, after_event, after_events, call_of, opened_with, opening_state}
 use Rattle.hm_model.specs.Call.{Call, all_located}
-use Rattle.hm_model.specs.Caused.{Counts, HasCause, HasNumbers, IsPossible, Known, early_refusal, known_after, known_after_entry, known_at, number_of, possible_for, takes_stream}
+use Rattle.hm_model.specs.Caused.{Counts, HasCause, HasNumbers, IsPossible, Known, early_refusal, known_after, known_after_entry, known_at, number_of}
+use Rattle.hm_model.specs.Caused.{possible_for, takes_stream}
 use Rattle.hm_model.specs.Due.{Check, first_refusal, intervals_left, record_checks, slaves_stay, walks}
 use Rattle.hm_types.specs.Hash.{name_hash}
 use Rattle.hm_model.specs.Legal.{HasFeed, IsEnding, IsLegal, IsReply, IsUndamaged, Lands, NamesAdded, Setting, enters_unclear, entries_of, state_after}

@@ -7,7 +7,9 @@ use Rattle.std.specs.Option.{option_map_or}
 use Rattle.hm_types.specs.declared.id.Id.{Id}
 use Rattle.hm_model.specs.declared.reply.Reply.{Reply}
 use Rattle.hm_model.specs.declared.reply.Reply.TheVariants.{Passed}
-use Rattle.hm_model.specs.After.{Event, OpenCall, State, accepted_effect, after_event, after_pass, call_of, effect, end_effect, end_of_pass, end_of_upgrade, ended, fed_from, given_in, last_after, next_stream, no_hash, nothing_merged, of_pfs, on_volume, opened_with, opening_state, origin_of, present_only, retaining, stream_origin, upgraded, with_origin}
+use Rattle.hm_model.specs.After.{Event, OpenCall, State, accepted_effect, after_event, after_pass, call_of, effect, end_effect, end_of_pass}
+use Rattle.hm_model.specs.After.{end_of_upgrade, ended, fed_from, given_in, last_after, next_stream, no_hash, nothing_merged, of_pfs, on_volume}
+use Rattle.hm_model.specs.After.{opened_with, opening_state, origin_of, present_only, retaining, stream_origin, upgraded, with_origin}
 use Rattle.hm_model.specs.Call.{Call, first_site, own_id, second_site}
 use Rattle.hm_model.specs.Caused.{IsPossible, Known, early_refusal, is_ending, known_after, known_after_entry, known_at, possible_for}
 use Rattle.hm_model.specs.Change.{change, changed, changed_pfs, new_slave}

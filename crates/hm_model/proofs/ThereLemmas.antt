@@ -13,7 +13,9 @@ use Rattle.hm_model.specs.Laws.{IsThere, rewrites}
 use Rattle.hm_model.specs.Sites.{BadAt, Parsed, Parts, Walks, at_end, uses_of}
 use Rattle.hm_model.specs.View.{AsOf, Position, View, When, object_at}
 use Rattle.hm_model.specs.Volume.{PseudoFileSystem, Volume, system_of}
-use Rattle.hm_model.specs.Walk.{Follow, Follows, Passed, Reaches, Refuses, Stays, TakesPfs, Walked, and_then, by_id, by_name, enter, find_name, find_object, from_found, is_directory, is_kept, is_seen, linked_in, look_at_root, over_link, reach, root_of, start, step, take_pfs, walk, walk_on, follow_before}
+use Rattle.hm_model.specs.Walk.{Follow, Follows, Passed, Reaches, Refuses, Stays, TakesPfs, Walked, and_then, by_id, by_name, enter, find_name}
+use Rattle.hm_model.specs.Walk.{find_object, from_found, is_directory, is_kept, is_seen, linked_in, look_at_root, over_link, reach, root_of, start}
+use Rattle.hm_model.specs.Walk.{step, take_pfs, walk, walk_on, follow_before}
 use Rattle.hm_model.proofs.CheckLemmas.{written_site}
 
 -- a walk that ends somewhere ends in a PFS that is there

@@ -11,7 +11,8 @@ use Rattle.hm_model.specs.declared.command.Command.{Command}
 use Rattle.hm_model.specs.declared.command.Command.TheVariants.{MirrorCopy, MirrorWrite, PfsUpgrade}
 use Rattle.hm_model.specs.declared.reply.Reply.{Reply}
 use Rattle.hm_model.specs.declared.reply.Reply.TheVariants.{Finished, Passed}
-use Rattle.hm_model.specs.After.{Given, OpenCall, State, after_pass, end_effect, end_id, end_of_pass, end_of_upgrade, end_of_write, given_by, given_in, nothing_merged, of_pfs, upgraded, with_origin, end_effect_of}
+use Rattle.hm_model.specs.After.{Given, OpenCall, State, after_pass, end_effect, end_id, end_of_pass, end_of_upgrade, end_of_write, given_by}
+use Rattle.hm_model.specs.After.{given_in, nothing_merged, of_pfs, upgraded, with_origin, end_effect_of}
 use Rattle.hm_model.specs.Cut.{join, within}
 use Rattle.hm_model.specs.Laws.{AreRising, is_rewriter, merges, rewrites}
 use Rattle.hm_model.specs.Legal.{begin_of}

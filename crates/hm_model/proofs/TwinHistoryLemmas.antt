@@ -8,7 +8,8 @@ use Rattle.hm_types.specs.declared.id.Id.{Id}
 use Rattle.hm_model.specs.declared.command.Command.{Command}
 use Rattle.hm_model.specs.declared.command.Command.TheVariants.{End, MirrorCopy, MirrorWrite, PfsUpgrade}
 use Rattle.hm_model.specs.declared.reply.Reply.{Reply}
-use Rattle.hm_model.specs.After.{Event, OpenCall, State, accepted_effect, after_event, call_of, effect, end_effect, ended, last_after, no_hash, opened_with, opening_state, end_effect_of}
+use Rattle.hm_model.specs.After.{Event, OpenCall, State, accepted_effect, after_event, call_of, effect, end_effect, ended, last_after, no_hash}
+use Rattle.hm_model.specs.After.{opened_with, opening_state, end_effect_of}
 use Rattle.hm_model.specs.Caused.{IsPossible, Known, early_refusal, is_ending, known_after, known_after_entry, known_at, possible_for}
 use Rattle.hm_model.specs.Due.{is_pass}
 use Rattle.hm_model.specs.Laws.{EndsPass, IsMasterFrom, IsUnfed, is_rewriter}

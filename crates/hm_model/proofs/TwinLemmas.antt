@@ -5,7 +5,8 @@ use Rattle.std.specs.List.{AllByRecursion}
 use Rattle.std.specs.Option.{option_map_or}
 use Rattle.hm_model.specs.declared.command.Command.{Command}
 use Rattle.hm_model.specs.declared.command.Command.TheVariants.{Prune, PruneAll, Reblock, PfsUpgrade, MirrorRead, MirrorWrite, MirrorCopy}
-use Rattle.hm_model.specs.After.{OpenCall, State, accepted_effect, fed_from, next_stream, of_pfs, on_volume, origin_of, stream_origin, with_origin, accepted_effect_of}
+use Rattle.hm_model.specs.After.{OpenCall, State, accepted_effect, fed_from, next_stream, of_pfs, on_volume, origin_of, stream_origin, with_origin}
+use Rattle.hm_model.specs.After.{accepted_effect_of}
 use Rattle.hm_model.specs.Call.{Call, first_site, own_id, second_site}
 use Rattle.hm_model.specs.Change.{change}
 use Rattle.hm_model.specs.Due.{is_pass, is_tree_call}

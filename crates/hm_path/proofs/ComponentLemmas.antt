@@ -47,7 +47,8 @@ component_is_one text a b p q =
     ap (λ name. make name a.as_of) same.0 ∙ ap (λ as_of. make b.name as_of) same.1
 
 -- no part is written so, where what stands before the id is no name
-no_written : (text name : List ℕ) (as_of : Option Id) → CutsId text name as_of → (IsName name → ⊥) → (length name ≡ 0 → as_of ≡ None) → (m : Option (List ℕ)) (a : Option Id) → IsWritten text m a → ⊥
+no_written : (text name : List ℕ) (as_of : Option Id) → CutsId text name as_of → (IsName name → ⊥) → (length name ≡ 0 → as_of ≡ None)
+    → (m : Option (List ℕ)) (a : Option Id) → IsWritten text m a → ⊥
 no_written text name as_of cuts unnamed bare None None is = is
 no_written text name None cuts unnamed bare (Some m) None is = unnamed (rw (cuts.0, is.0) is.1)
 no_written text name None cuts unnamed bare (Some m) (Some a) is = cuts.1 m a is.1
@@ -76,11 +77,13 @@ some_from_test [] test none = cc
 some_from_test (b ∷ bs) test none = omega (arith, none)
 
 -- what a reading found: no component, or this part
-pub no_part : (text : List ℕ) (found : Option Part) → MatchOption found (IsNoComponent text) (IsComponent text) → ((part : Part) → found ≡ Some part → ⊥) → IsNoComponent text
+pub no_part : (text : List ℕ) (found : Option Part) → MatchOption found (IsNoComponent text) (IsComponent text)
+    → ((part : Part) → found ≡ Some part → ⊥) → IsNoComponent text
 no_part text None read none = read
 no_part text (Some part) read none = absurd (none part refl)
 
-pub one_part : (text : List ℕ) (found : Option Part) (part : Part) → found ≡ Some part → MatchOption found (IsNoComponent text) (IsComponent text) → IsComponent text part
+pub one_part : (text : List ℕ) (found : Option Part) (part : Part) → found ≡ Some part → MatchOption found (IsNoComponent text) (IsComponent text)
+    → IsComponent text part
 one_part text found part is read =
     let P : Option Part → Type 0 = λ o. MatchOption o (IsNoComponent text) (IsComponent text) in
     subst P is read

@@ -1,5 +1,6 @@
 -- The id that ends a component.
-use Rattle.std.proofs.Common.{◌≡◌, ℕ, zero, suc, ◌+◌, ◌-◌, ◌^◌, ◌<◌, ◌≤◌, List, [], ◌∷◌, ◌++◌, length, get_or, take, drop, refl, sym, ◌∙◌, ap, subst, arith, add-one, length-append}
+use Rattle.std.proofs.Common.{◌≡◌, ℕ, zero, suc, ◌+◌, ◌-◌, ◌^◌, ◌<◌, ◌≤◌, List, [], ◌∷◌, ◌++◌, length, get_or, take, drop, refl, sym, ◌∙◌, ap, subst}
+use Rattle.std.proofs.Common.{arith, add-one, length-append}
 use Rattle.std.specs.Char.{digit_value}
 use Rattle.std.specs.Str.Parse.{AllDigits, digits_value}
 use Rattle.std.proofs.lemmas.Int.Digits.{digits_value-lt}
@@ -78,7 +79,8 @@ no_id_in_name text front id ends named =
     two_signs front (0x30 ∷ 0x78 ∷ ends.id_is.digits) (rw is at named.no_id)
 
 -- no id ends a text whose last bytes are none
-pub no_id_at_end : (text : List ℕ) (start : ℕ) → start + 20 ≡ length text → IsNoIdText (take (length text - start) (drop start text)) → (front : List ℕ) (id : Id) → EndsWithId text front id → ⊥
+pub no_id_at_end : (text : List ℕ) (start : ℕ) → start + 20 ≡ length text → IsNoIdText (take (length text - start) (drop start text))
+    → (front : List ℕ) (id : Id) → EndsWithId text front id → ⊥
 no_id_at_end text start long none front id ends =
     let cut : length front ≡ start = omega (arith, ap length ends.text_is, length-append front ends.end, length_id ends.end id ends.id_is) in
     let end : drop start text ≡ ends.end = rw (ends.text_is, ← cut) (drop-append_seam front ends.end) in

@@ -29,7 +29,8 @@ pub path_is_one : (text : List ℕ) (a b : List Part) → IsPath text a → IsPa
 path_is_one text a b p q = all_are_one (component_texts (drop 1 text)) a b p.spelled.each q.spelled.each
 
 -- the component after those in front says a part too
-component_after : (before : List (List ℕ)) (bad : List ℕ) (rest : List (List ℕ)) (parts : List Part) → AllZip IsComponent (before ++ bad ∷ rest) parts → (part : Part) × IsComponent bad part
+component_after : (before : List (List ℕ)) (bad : List ℕ) (rest : List (List ℕ)) (parts : List Part) → AllZip IsComponent (before ++ bad ∷ rest) parts
+    → (part : Part) × IsComponent bad part
 component_after [] bad rest [] all = absurd all
 component_after [] bad rest (part ∷ parts) all = (part, all.0)
 component_after (text ∷ texts) bad rest [] all = absurd all
@@ -41,7 +42,13 @@ no_first_bad texts parts place good first =
     let all : AllZip IsComponent (first.before ++ first.bad ∷ first.rest) parts = rw first.texts_are at good.each in
     elim first.cause [
       | inl none ↦ let found = component_after first.before first.bad first.rest parts all in none found.0 found.1
-      | inr many ↦ absurd (omega (arith, length_parts (first.before ++ first.bad ∷ first.rest) parts all, length-append first.before (first.bad ∷ first.rest), good.few, many))
+      | inr many ↦ absurd (omega (
+        arith,
+        length_parts (first.before ++ first.bad ∷ first.rest) parts all,
+        length-append first.before (first.bad ∷ first.rest),
+        good.few,
+        many,
+      ))
     ]
 
 -- a path has no bad place
@@ -52,7 +59,9 @@ no_bad_path text parts place path (inr (inr first)) = no_first_bad (component_te
 
 -- Two fronts of the same components have one end, where each goes to the first that is bad or to the
 -- greatest count.
-offsets_are_one : (most : ℕ) (f g : List (List ℕ)) (x y : List ℕ) (r s : List (List ℕ)) (a b : List Part) → f ++ x ∷ r ≡ g ++ y ∷ s → AllZip IsComponent f a → AllZip IsComponent g b → length f ≤ most → length g ≤ most → IsNoComponent x ⊎ (length f ≡ most) → IsNoComponent y ⊎ (length g ≡ most) → offset_after f ≡ offset_after g
+offsets_are_one : (most : ℕ) (f g : List (List ℕ)) (x y : List ℕ) (r s : List (List ℕ)) (a b : List Part) → f ++ x ∷ r ≡ g ++ y ∷ s
+    → AllZip IsComponent f a → AllZip IsComponent g b → length f ≤ most → length g ≤ most → IsNoComponent x ⊎ (length f ≡ most)
+    → IsNoComponent y ⊎ (length g ≡ most) → offset_after f ≡ offset_after g
 offsets_are_one most [] [] x y r s a b same p q short short' bad bad' = refl
 offsets_are_one most [] (t ∷ g) x y r s a [] same p q short short' bad bad' = absurd q
 offsets_are_one most [] (t ∷ g) x y r s a (part ∷ b) same p q short short' bad bad' =
@@ -77,7 +86,8 @@ first_bad_is_one : (texts : List (List ℕ)) (a b : ℕ) → IsFirstBad texts a 
 first_bad_is_one texts a b p q =
     let short : length p.before ≤ MOST_PATH_PARTS = omega (arith, length_parts p.before p.parts p.good.each, p.good.few) in
     let short' : length q.before ≤ MOST_PATH_PARTS = omega (arith, length_parts q.before q.parts q.good.each, q.good.few) in
-    p.place_is ∙ (offsets_are_one MOST_PATH_PARTS p.before q.before p.bad q.bad p.rest q.rest p.parts q.parts (sym p.texts_are ∙ q.texts_are) p.good.each q.good.each short short' p.cause q.cause ∙ sym q.place_is)
+    p.place_is ∙ (offsets_are_one MOST_PATH_PARTS p.before q.before p.bad q.bad p.rest q.rest p.parts q.parts (sym p.texts_are ∙ q.texts_are)
+    p.good.each q.good.each short short' p.cause q.cause ∙ sym q.place_is)
 
 -- a text has one bad place only
 pub bad_place_is_one : (text : List ℕ) (a b : ℕ) → IsBadPlace text a → IsBadPlace text b → a ≡ b

@@ -1,5 +1,6 @@
 -- Every text is read: it is a path, or it is bad at a place.
-use Rattle.std.proofs.Common.{◌≡◌, ◌⊎◌, inl, inr, ⊎_elim, ℕ, zero, suc, ◌-◌, ◌≤◌, List, [], ◌∷◌, ◌++◌, Option, None, Some, length, take, drop, refl, sym, ◌∙◌, ap, subst, arith, add-one, length-append}
+use Rattle.std.proofs.Common.{◌≡◌, ◌⊎◌, inl, inr, ⊎_elim, ℕ, zero, suc, ◌-◌, ◌≤◌, List, [], ◌∷◌, ◌++◌, Option, None, Some, length, take, drop, refl}
+use Rattle.std.proofs.Common.{sym, ◌∙◌, ap, subst, arith, add-one, length-append}
 use Rattle.std.specs.Prelude.{codes, slice_index}
 use Rattle.std.specs.List.{AllByRecursion, AllZip}
 use Rattle.std.specs.Char.{digit_value}

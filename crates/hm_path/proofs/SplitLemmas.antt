@@ -1,5 +1,6 @@
 -- The components of a text that is read from the front.
-use Rattle.std.proofs.Common.{◌≡◌, ℕ, suc, ◌+◌, ◌<◌, ◌≤◌, ◌⊎◌, Bool, true, false, List, [], ◌∷◌, ◌++◌, Option, None, Some, Bor, length, get_or, take, drop, map, refl, sym, ◌∙◌, ap, arith, drop-cons, length-append}
+use Rattle.std.proofs.Common.{◌≡◌, ℕ, suc, ◌+◌, ◌<◌, ◌≤◌, ◌⊎◌, Bool, true, false, List, [], ◌∷◌, ◌++◌, Option, None, Some, Bor, length, get_or, take}
+use Rattle.std.proofs.Common.{drop, map, refl, sym, ◌∙◌, ap, arith, drop-cons, length-append}
 use Rattle.std.specs.Iterator.{Yields}
 use Rattle.std.specs.List.{AllZip, slice_split, onto_first}
 use Rattle.std.proofs.lemmas.Iterator.{YieldsList}
@@ -13,7 +14,9 @@ use Rattle.hm_path.specs.Path.{slash, component_texts, SpellsParts, offset_after
 use Rattle.std.specs.Bool.{◌==◌}
 
 -- the item that an iterator gives next, and what it has left
-pub next_item : {S : Type 0} {steps : S → Option (Bor (List ℕ)) → S → Type 0} {s : S} {all : List (List ℕ)} (xs : List (Bor (List ℕ))) (t : S) (y : Yields steps s xs t) (r : Option (Bor (List ℕ))) (u : S) (x : Bor (List ℕ)) → r ≡ Some x → steps t r u → YieldsList steps (λ t. t.now) s all → (after : List (List ℕ)) × (all ≡ map (λ t. t.now) xs ++ x.now ∷ after)
+pub next_item : {S : Type 0} {steps : S → Option (Bor (List ℕ)) → S → Type 0} {s : S} {all : List (List ℕ)} (xs : List (Bor (List ℕ))) (t : S)
+    (y : Yields steps s xs t) (r : Option (Bor (List ℕ))) (u : S) (x : Bor (List ℕ)) → r ≡ Some x → steps t r u → YieldsList steps (λ t. t.now) s all
+    → (after : List (List ℕ)) × (all ≡ map (λ t. t.now) xs ++ x.now ∷ after)
 next_item {all = all} xs t y r u x some step road =
     let n : ℕ = length xs in
     let so_far : map (λ t. t.now) xs ≡ take n all = YieldsList-so_far road xs t y in
@@ -23,7 +26,8 @@ next_item {all = all} xs t y r u x some step road =
     (drop (suc n) all, sym (take-append-drop n all) ∙ rw (last, ← turn.1, so_far) refl)
 
 -- the items of an iterator that has none left
-pub no_item : {S : Type 0} {steps : S → Option (Bor (List ℕ)) → S → Type 0} {s : S} {all : List (List ℕ)} (xs : List (Bor (List ℕ))) (t : S) (y : Yields steps s xs t) (r : Option (Bor (List ℕ))) (u : S) → r ≡ None → steps t r u → YieldsList steps (λ t. t.now) s all → map (λ t. t.now) xs ≡ all
+pub no_item : {S : Type 0} {steps : S → Option (Bor (List ℕ)) → S → Type 0} {s : S} {all : List (List ℕ)} (xs : List (Bor (List ℕ))) (t : S)
+    (y : Yields steps s xs t) (r : Option (Bor (List ℕ))) (u : S) → r ≡ None → steps t r u → YieldsList steps (λ t. t.now) s all → map (λ t. t.now) xs ≡ all
 no_item xs t y r u none step road = (YieldsList-end road xs t y r u none step).0
 
 -- the components after a first slash, where some byte follows it
@@ -32,14 +36,16 @@ texts_are [] some = absurd (omega arith)
 texts_are (b ∷ bs) some = refl
 
 -- one more component and its part
-zip_push : (texts : List (List ℕ)) (parts : List Part) (text : List ℕ) (part : Part) → AllZip IsComponent texts parts → IsComponent text part → AllZip IsComponent (texts ++ text ∷ []) (parts ++ part ∷ [])
+zip_push : (texts : List (List ℕ)) (parts : List Part) (text : List ℕ) (part : Part) → AllZip IsComponent texts parts → IsComponent text part
+    → AllZip IsComponent (texts ++ text ∷ []) (parts ++ part ∷ [])
 zip_push [] [] text part all is = (is, tt)
 zip_push [] (p ∷ parts) text part all is = absurd all
 zip_push (t ∷ texts) [] text part all is = absurd all
 zip_push (t ∷ texts) (p ∷ parts) text part all is = (all.0, zip_push texts parts text part all.1 is)
 
 -- the same, where there is room for it
-pub spells_more : (texts : List (List ℕ)) (parts : List Part) (text : List ℕ) (part : Part) → SpellsParts texts parts → length parts < MOST_PATH_PARTS → IsComponent text part → SpellsParts (texts ++ text ∷ []) (parts ++ part ∷ [])
+pub spells_more : (texts : List (List ℕ)) (parts : List Part) (text : List ℕ) (part : Part) → SpellsParts texts parts → length parts < MOST_PATH_PARTS
+    → IsComponent text part → SpellsParts (texts ++ text ∷ []) (parts ++ part ∷ [])
 spells_more texts parts text part good room is = record {
   each = zip_push texts parts text part good.each is;
   few = rw length-append (omega (arith, room));
@@ -56,7 +62,8 @@ offset_some [] = omega arith
 offset_some (t ∷ texts) = omega (arith, offset_some texts)
 
 -- offsets rise
-offset_front : (before : List (List ℕ)) (text : List ℕ) (after : List (List ℕ)) → offset_after before + (length text + 1) ≤ offset_after (before ++ text ∷ after)
+offset_front : (before : List (List ℕ)) (text : List ℕ) (after : List (List ℕ))
+    → offset_after before + (length text + 1) ≤ offset_after (before ++ text ∷ after)
 offset_front [] text after = omega (arith, offset_some after)
 offset_front (t ∷ before) text after = omega (arith, offset_front before text after)
 
@@ -66,7 +73,8 @@ offset_onto x [] some = absurd (omega arith)
 offset_onto x (text ∷ texts) some = omega arith
 
 -- one more byte of the text, a slash or not
-offset_step : (p : ℕ → Bool) (x : ℕ) (xs : List ℕ) (b : Bool) → p x ≡ b → offset_after (slice_split p xs) ≡ length xs + 2 → offset_after (slice_split p (x ∷ xs)) ≡ length (x ∷ xs) + 2
+offset_step : (p : ℕ → Bool) (x : ℕ) (xs : List ℕ) (b : Bool) → p x ≡ b → offset_after (slice_split p xs) ≡ length xs + 2
+    → offset_after (slice_split p (x ∷ xs)) ≡ length (x ∷ xs) + 2
 offset_step p x xs true passes so_far = rw (slice_split-cons_yes p x xs passes) (omega (arith, so_far))
 offset_step p x xs false other so_far =
     let some : 0 < length (slice_split p xs) = rw length-slice_split (omega arith) in
@@ -78,12 +86,15 @@ offset_all p [] = refl
 offset_all p (x ∷ xs) = offset_step p x xs (p x) refl (offset_all p xs)
 
 -- a component ends within the text
-pub place_within : (p : ℕ → Bool) (rest : List ℕ) (before : List (List ℕ)) (text : List ℕ) (after : List (List ℕ)) → slice_split p rest ≡ before ++ text ∷ after → offset_after before + (length text + 1) ≤ length rest + 2
+pub place_within : (p : ℕ → Bool) (rest : List ℕ) (before : List (List ℕ)) (text : List ℕ) (after : List (List ℕ))
+    → slice_split p rest ≡ before ++ text ∷ after → offset_after before + (length text + 1) ≤ length rest + 2
 place_within p rest before text after parted =
     omega (arith, offset_front before text after, ap offset_after parted, offset_all p rest)
 
 -- the component at hand is the first that is bad
-pub bad_here : (rest : List ℕ) (before : List (List ℕ)) (bad : List ℕ) (after : List (List ℕ)) (parts : List Part) (place : ℕ) → 0 < length rest → slice_split (λ x. x == slash) rest ≡ before ++ bad ∷ after → SpellsParts before parts → place ≡ offset_after before → IsNoComponent bad ⊎ (length before ≡ MOST_PATH_PARTS) → IsFirstBad (component_texts rest) place
+pub bad_here : (rest : List ℕ) (before : List (List ℕ)) (bad : List ℕ) (after : List (List ℕ)) (parts : List Part) (place : ℕ) → 0 < length rest
+    → slice_split (λ x. x == slash) rest ≡ before ++ bad ∷ after → SpellsParts before parts → place ≡ offset_after before
+    → IsNoComponent bad ⊎ (length before ≡ MOST_PATH_PARTS) → IsFirstBad (component_texts rest) place
 bad_here rest before bad after parts place some parted good place_is cause = record {
   before = before;
   bad = bad;

@@ -13,7 +13,8 @@ use Rattle.hm_records.specs.declared.inode.Inode.{Inode}
 use Rattle.hm_records.specs.declared.kind.TheConstants.{FILE, SOFTLINK}
 use Rattle.hm_records.specs.Inode.{IsInode, inode_bytes}
 use Rattle.hm_key.specs.Counts.{Content, inode_subject, bytes_subject, target_subject}
-use Rattle.hm_records.specs.View.{AreFileBytes, IsFileByte, covered, hole, past, IsFirstAfter, IsHeld, IsObject, IsTargetOf, held, missing, IsTriple, kind_number}
+use Rattle.hm_records.specs.View.{AreFileBytes, IsFileByte, covered, hole, past, IsFirstAfter, IsHeld, IsObject, IsTargetOf, held, missing, IsTriple}
+use Rattle.hm_records.specs.View.{kind_number}
 use Rattle.hm_records.specs.Changes.{AgreeOnName, AgreeOnObject, IsSettled}
 use Rattle.hm_records.proofs.InodeLemmas.{inode_in, inode_back}
 

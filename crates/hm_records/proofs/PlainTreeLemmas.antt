@@ -17,7 +17,8 @@ use Rattle.hm_key.specs.Versions.{HaveOwnKeys}
 use Rattle.hm_records.specs.Changes.{CountsNothing, IsSettled, LacksName}
 use Rattle.hm_records.specs.Laws.{triple_of}
 use Rattle.hm_records.specs.View.{HasEntry, IsObject, IsTriple, IsView}
-use Rattle.hm_records.specs.PlainView.{HasName, HasNumber, HasTriple, HoldsObjects, HoldsTriples, IsAddedObject, IsAddedTriple, IsEarlierEntry, IsEntryAt, IsEntryOf, IsFirstKey, IsInodeOf, IsLeastKey, IsLess, IsNewObject, IsNewTriple, IsObjectAt}
+use Rattle.hm_records.specs.PlainView.{HasName, HasNumber, HasTriple, HoldsObjects, HoldsTriples, IsAddedObject, IsAddedTriple, IsEarlierEntry}
+use Rattle.hm_records.specs.PlainView.{IsEntryAt, IsEntryOf, IsFirstKey, IsInodeOf, IsLeastKey, IsLess, IsNewObject, IsNewTriple, IsObjectAt}
 use Rattle.hm_records.proofs.CountsLemmas.{settled}
 use Rattle.hm_records.proofs.MemberLemmas.{has_insert, has_none, insert_has, order_insert}
 use Rattle.hm_records.proofs.NameLemmas.{entry_one, same_obj, triple_one}

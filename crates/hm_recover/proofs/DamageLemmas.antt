@@ -58,7 +58,8 @@ module _ (image : List ℕ) (header : Header) where
         },
       )
 
-  pub range-whole : (olds : List OldPage) → HasRange image header olds → (i : ℕ) → i < header.undo_count → IsWholeEntry image header (entry_at header.undo_first i)
+  pub range-whole : (olds : List OldPage) → HasRange image header olds → (i : ℕ) → i < header.undo_count
+      → IsWholeEntry image header (entry_at header.undo_first i)
   range-whole olds range i below =
       (get_or olds i none, range-entry image header olds range i none (omega (arith, below, range.count)))
     where

@@ -135,7 +135,8 @@ pub page-may : (old new : Option Told) (header : Header) (entry at : ℕ) (bytes
     → IfSome old (λ t. HasUndoEntry t.bytes header entry (old_page at bytes)) → BothTell old new (MayPutPage (old_page at bytes) past since)
     → BothTell old new (MayPut header entry past since)
 page-may old new header entry at bytes past since has may =
-    BothTell-map old new (λ t. HasUndoEntry t.bytes header entry (old_page at bytes)) (MayPutPage (old_page at bytes) past since) (MayPut header entry past since)
+    BothTell-map old new (λ t. HasUndoEntry t.bytes header entry (old_page at bytes)) (MayPutPage (old_page at bytes) past since)
+    (MayPut header entry past since)
     (λ s t here put page there. subst (λ (o : OldPage). MayPutPage o past since s t)
     (entry-one s.bytes header entry (old_page at bytes) page here there) put) has may
 
@@ -146,7 +147,8 @@ pub page-written : {T E : Type 0} (r : Result T E) (old new : Option Told) (at p
     → BothTell old new (CallElapses place (length bytes) past since) → BothTell old new (MayPutPage (old_page at page) past since)
 page-written r old new at place page bytes past since here same within ok err time =
     subst (λ (bs : List ℕ). BothTell old new (MayPutPage (old_page at bs) past since)) same
-    (BothTell-map old new (λ t. place + length bytes ≤ length t.bytes) (λ s t. TornAll place (length bytes) s t × CallElapses place (length bytes) past since s t)
+    (BothTell-map old new (λ t. place + length bytes ≤ length t.bytes)
+    (λ s t. TornAll place (length bytes) s t × CallElapses place (length bytes) past since s t)
     (MayPutPage (old_page at bytes) past since)
     (λ s t fits both. record {
       torn = subst (λ (n : ℕ). TornAll n (length bytes) s t) here both.0;

@@ -1,6 +1,7 @@
 -- What an image recovers to while the pages of its range are put back, and while the next header is written.
 use Rattle.std.proofs.Common.{◌≡◌, ◌⊎◌, inl, inr, ⊎_elim, ℕ, ◌+◌, ◌-◌, ◌<◌, ◌≤◌, List, [], ◌∷◌, ◌++◌}
-use Rattle.std.proofs.Common.{refl, sym, ap, subst, ◌∙◌, arith, length, take, drop, get_or, slice_index, slice_range, length-append, ◌%◌, Option, None, Some, IfSome}
+use Rattle.std.proofs.Common.{refl, sym, ap, subst, ◌∙◌, arith, length, take, drop, get_or, slice_index, slice_range, length-append, ◌%◌, Option}
+use Rattle.std.proofs.Common.{None, Some, IfSome}
 use Rattle.std.proofs.lemmas.Bool.{cases_lt}
 use Rattle.std.proofs.lemmas.List.{drop_all, drop_more, ext_get_or, take-append-drop}
 use Rattle.hm_disk.specs.Crash.{Told, MayLeave, Outside}
@@ -349,7 +350,8 @@ module _ (header : Header) (slot : ℕ) (small : slot ≤ 1) where
       → opened.slot ≡ 1 - slot → IfSome old (IsRangeReady header slot) → BothTell old told (AfterPut header past middle)
       → BothTell told new (Changes (recovered_header header) (1 - slot)) → BothTell old new (IsRecovered opened past since)
   after-changed past middle since opened old told new header_is slot_is ready after changes =
-      BothTell-then old told new (IsRangeReady header slot) (AfterPut header past middle) (Changes (recovered_header header) (1 - slot)) (IsRecovered opened past since)
+      BothTell-then old told new (IsRangeReady header slot) (AfterPut header past middle) (Changes (recovered_header header) (1 - slot))
+      (IsRecovered opened past since)
       (λ s u v is first then. is-recovered header slot small past s is since u v opened header_is slot_is first.put then) ready after changes
 
 -- nothing was written

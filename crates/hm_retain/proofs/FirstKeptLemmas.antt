@@ -43,7 +43,8 @@ pub record IsSought (list : List (ℕ × ℕ)) (from : ℕ) (part : List (Id × 
   pub found : IfSome next (IsAbovePart list from (numbers_of part))
 
 -- the whole list is searched
-pub IsSought-all : (list : List (ℕ × ℕ)) (from : ℕ) (part : List (Id × Id)) → numbers_of part ≡ list → IsRetention (numbers_of part) → IsSought list from part None
+pub IsSought-all : (list : List (ℕ × ℕ)) (from : ℕ) (part : List (Id × Id)) → numbers_of part ≡ list → IsRetention (numbers_of part)
+    → IsSought list from part None
 IsSought-all list from part is retention = record {
   least = 0;
   few = omega (arith, retention.few, length-map part number_pair);
@@ -62,7 +63,8 @@ before_middle None list whole front from first id found here narrow (inr later) 
 before_middle (Some next) list whole front from first id found here narrow (inr later) = inr (omega (arith, found.above first here))
 
 -- the search goes on before the middle
-pub sought_before : (list : List (ℕ × ℕ)) (from : ℕ) (part : List (Id × Id)) (next : Option Id) (m : ℕ) (d : Id × Id) → IsSought list from part next → m < length part → from < (get_or part m d).0.0
+pub sought_before : (list : List (ℕ × ℕ)) (from : ℕ) (part : List (Id × Id)) (next : Option Id) (m : ℕ) (d : Id × Id) → IsSought list from part next
+    → m < length part → from < (get_or part m d).0.0
     → IsSought list from (take m part) (Some (get_or part m d).0)
 sought_before list from part next m d sought within less =
     let front : List (ℕ × ℕ) = numbers_of (take m part) in
@@ -81,17 +83,25 @@ sought_before list from part next m d sought within less =
       rises = RiseFrom-front sought.least front (x ∷ back) rise;
       kept = λ id held. kept id ((keeps_before sought.least front x back id rise (below id held)).1 held);
       rest = λ id held later.
-          before_middle next list (front ++ x ∷ back) front from x.0 id found begin (λ under. (keeps_before sought.least front x back id rise under).0) (rest id held later);
+          before_middle next list (front ++ x ∷ back) front from x.0 id found begin
+          (λ under. (keeps_before sought.least front x back id rise under).0) (rest id held later);
       found = record { onward = omega arith; kept = kept x.0 begin; above = below };
     }
 
 -- what is found above a part of a list is above each part of that
-above_less : (next : Option Id) (list part less : List (ℕ × ℕ)) (from : ℕ) → ((id : ℕ) → Keeps less id → Keeps part id) → IfSome next (IsAbovePart list from part) → IfSome next (IsAbovePart list from less)
+above_less : (next : Option Id) (list part less : List (ℕ × ℕ)) (from : ℕ) → ((id : ℕ) → Keeps less id → Keeps part id)
+    → IfSome next (IsAbovePart list from part) → IfSome next (IsAbovePart list from less)
 above_less None list part less from narrow found = tt
-above_less (Some next) list part less from narrow found = record { onward = found.onward; kept = found.kept; above = λ id held. found.above id (narrow id held) }
+above_less (Some next) list part less from narrow found = record {
+  onward = found.onward;
+  kept = found.kept;
+  above =
+      λ id held. found.above id (narrow id held);
+}
 
 -- the search goes on after the middle
-pub sought_after : (list : List (ℕ × ℕ)) (from : ℕ) (part : List (Id × Id)) (next : Option Id) (m : ℕ) (d : Id × Id) → IsSought list from part next → m < length part → (get_or part m d).1.0 < from
+pub sought_after : (list : List (ℕ × ℕ)) (from : ℕ) (part : List (Id × Id)) (next : Option Id) (m : ℕ) (d : Id × Id) → IsSought list from part next
+    → m < length part → (get_or part m d).1.0 < from
     → IsSought list from (take (length part - (m + 1)) (drop (m + 1) part)) next
 sought_after list from part next m d sought within less =
     let front : List (ℕ × ℕ) = numbers_of (take m part) in
@@ -115,14 +125,17 @@ sought_after list from part next m d sought within less =
     rw (take_rest part (m + 1)) after
 
 -- the interval in the middle holds the id
-pub sought_found : (list : List (ℕ × ℕ)) (from : ℕ) (part : List (Id × Id)) (next : Option Id) (m : ℕ) (d : Id × Id) → IsSought list from part next → m < length part
+pub sought_found : (list : List (ℕ × ℕ)) (from : ℕ) (part : List (Id × Id)) (next : Option Id) (m : ℕ) (d : Id × Id) → IsSought list from part next
+    → m < length part
     → (get_or part m d).0.0 ≤ from → from ≤ (get_or part m d).1.0 → Keeps list from
 sought_found list from part next m d sought within low high =
-    let kept : (id : ℕ) → Keeps (numbers_of (take m part) ++ number_pair (get_or part m d) ∷ numbers_of (drop (m + 1) part)) id → Keeps list id = rw (numbers_about part m d within) at sought.kept in
+    let kept : (id : ℕ) → Keeps (numbers_of (take m part) ++ number_pair (get_or part m d) ∷ numbers_of (drop (m + 1) part)) id → Keeps list id =
+    rw (numbers_about part m d within) at sought.kept in
     kept from (keeps_at (numbers_of (take m part)) (number_pair (get_or part m d)) (numbers_of (drop (m + 1) part)) from (low, high))
 
 -- nothing is left to search
-pub sought_end : (list : List (ℕ × ℕ)) (from : ℕ) (part : List (Id × Id)) (next : Option Id) → IsSought list from part next → length part ≡ 0 → IsFirstKept list from next
+pub sought_end : (list : List (ℕ × ℕ)) (from : ℕ) (part : List (Id × Id)) (next : Option Id) → IsSought list from part next → length part ≡ 0
+    → IsFirstKept list from next
 sought_end list from (x ∷ xs) next sought none = absurd (omega arith)
 sought_end list from [] None sought none = λ id kept. elim (less_or_not id from) [
   | inl less ↦ less

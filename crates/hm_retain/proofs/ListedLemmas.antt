@@ -1,5 +1,6 @@
 -- Listed ids that are walked in rising order.
-use Rattle.std.proofs.Common.{◌≡◌, ℕ, zero, suc, ◌-◌, ◌<◌, ◌≤◌, ◌^◌, List, [], ◌∷◌, length, get_or, take, drop, true, Result, Ok, Err, IfOk, refl, inl, inr, arith, ap}
+use Rattle.std.proofs.Common.{◌≡◌, ℕ, zero, suc, ◌-◌, ◌<◌, ◌≤◌, ◌^◌, List, [], ◌∷◌, length, get_or, take, drop, true, Result, Ok, Err, IfOk, refl}
+use Rattle.std.proofs.Common.{inl, inr, arith, ap}
 use Rattle.std.specs.Prelude.{◌⊎◌, ◌↔◌}
 use Rattle.std.specs.List.Sorted.{IsNonDecreasingBy}
 use Rattle.std.specs.Ordering.{is_le, nat_cmp}
@@ -43,7 +44,8 @@ IdsFrom-lower low high [] le from = tt
 IdsFrom-lower low high (i ∷ is) le from = (omega arith, from.1)
 
 -- ids in order rise from the first on
-pub IdsFrom-sorted : (low : ℕ) (ids : List Id) → IsNonDecreasingBy (λ (id : Id). id.0) ids → ((d : Id) → 0 < length ids → low ≤ (get_or ids 0 d).0) → IdsFrom low ids
+pub IdsFrom-sorted : (low : ℕ) (ids : List Id) → IsNonDecreasingBy (λ (id : Id). id.0) ids → ((d : Id) → 0 < length ids → low ≤ (get_or ids 0 d).0)
+    → IdsFrom low ids
 IdsFrom-sorted low [] order first = tt
 IdsFrom-sorted low (i ∷ is) order first = (
   first i (omega arith),
@@ -74,7 +76,8 @@ pub IsListing-begin : (ids : List Id) (from : ℕ) (i : Id) (rest : List Id) (se
 IsListing-begin ids from i rest set listing = BeginBy-higher listing.low i.0 set listing.rises.0 listing.begin
 
 -- an id below `from` is added
-pub IsListing-add : (ids : List Id) (from : ℕ) (i : Id) (rest : List Id) (old new : List (ℕ × ℕ)) → IsListing ids from (i ∷ rest) old → i.0 < from → Adds (i.0, i.0) old new → IsListing ids from rest new
+pub IsListing-add : (ids : List Id) (from : ℕ) (i : Id) (rest : List Id) (old new : List (ℕ × ℕ)) → IsListing ids from (i ∷ rest) old → i.0 < from
+    → Adds (i.0, i.0) old new → IsListing ids from rest new
 IsListing-add ids from i rest old new listing less adds = record {
   low = i.0;
   before = omega arith;
@@ -96,7 +99,8 @@ IsListing-add ids from i rest old new listing less adds = record {
 }
 
 -- an id from `from` on is left out
-pub IsListing-skip : (ids : List Id) (from : ℕ) (i : Id) (rest : List Id) (set : List (ℕ × ℕ)) → IsListing ids from (i ∷ rest) set → from ≤ i.0 → IsListing ids from rest set
+pub IsListing-skip : (ids : List Id) (from : ℕ) (i : Id) (rest : List Id) (set : List (ℕ × ℕ)) → IsListing ids from (i ∷ rest) set → from ≤ i.0
+    → IsListing ids from rest set
 IsListing-skip ids from i rest set listing le = record {
   low = listing.low;
   before = listing.before;
@@ -116,7 +120,8 @@ pub IsListing-end_begin : (ids : List Id) (from : ℕ) (rest : List Id) (set : L
 IsListing-end_begin ids from rest set listing = BeginBy-higher listing.low from set listing.before listing.begin
 
 -- all from `from` on are added
-pub IsListing-end : (ids : List Id) (from last : ℕ) (old new : List (ℕ × ℕ)) → IsListing ids from [] old → last ≡ 2 ^ 64 - 1 → Adds (from, last) old new → KeepsExactly new (λ id. IsListed ids id ⊎ (from ≤ id))
+pub IsListing-end : (ids : List Id) (from last : ℕ) (old new : List (ℕ × ℕ)) → IsListing ids from [] old → last ≡ 2 ^ 64 - 1
+    → Adds (from, last) old new → KeepsExactly new (λ id. IsListed ids id ⊎ (from ≤ id))
 IsListing-end ids from last old new listing is_end adds id below = (
   λ kept. elim ((adds.keeps id).0 kept) [
     | inl was ↦ inl (Lists-to_listed ids id ((listing.keeps id).0 (inl was)).0)
@@ -135,19 +140,23 @@ IsListing-end ids from last old new listing is_end adds id below = (
 )
 
 -- the loop's own form of the steps
-pub listing_begin : (ids : List Id) (from : ℕ) (rest : List Id) (d : Id) (set : List (ℕ × ℕ)) → IsListing ids from rest set → 1 ≤ length rest → BeginBy (get_or rest 0 d).0 set
+pub listing_begin : (ids : List Id) (from : ℕ) (rest : List Id) (d : Id) (set : List (ℕ × ℕ)) → IsListing ids from rest set → 1 ≤ length rest
+    → BeginBy (get_or rest 0 d).0 set
 listing_begin ids from [] d set listing some = absurd (omega arith)
 listing_begin ids from (i ∷ rest) d set listing some = IsListing-begin ids from i rest set listing
 
-pub listing_add : (ids : List Id) (from : ℕ) (rest : List Id) (d : Id) (old new : List (ℕ × ℕ)) → IsListing ids from rest old → 1 ≤ length rest → (get_or rest 0 d).0 < from → Adds ((get_or rest 0 d).0, (get_or rest 0 d).0) old new → IsListing ids from (take (length rest - 1) (drop 1 rest)) new
+pub listing_add : (ids : List Id) (from : ℕ) (rest : List Id) (d : Id) (old new : List (ℕ × ℕ)) → IsListing ids from rest old → 1 ≤ length rest
+    → (get_or rest 0 d).0 < from → Adds ((get_or rest 0 d).0, (get_or rest 0 d).0) old new → IsListing ids from (take (length rest - 1) (drop 1 rest)) new
 listing_add ids from [] d old new listing some less adds = absurd (omega arith)
 listing_add ids from (i ∷ rest) d old new listing some less adds = rw (take_rest (i ∷ rest) 1) (IsListing-add ids from i rest old new listing less adds)
 
-pub listing_skip : (ids : List Id) (from : ℕ) (rest : List Id) (d : Id) (set : List (ℕ × ℕ)) → IsListing ids from rest set → 1 ≤ length rest → from ≤ (get_or rest 0 d).0 → IsListing ids from (take (length rest - 1) (drop 1 rest)) set
+pub listing_skip : (ids : List Id) (from : ℕ) (rest : List Id) (d : Id) (set : List (ℕ × ℕ)) → IsListing ids from rest set → 1 ≤ length rest
+    → from ≤ (get_or rest 0 d).0 → IsListing ids from (take (length rest - 1) (drop 1 rest)) set
 listing_skip ids from [] d set listing some le = absurd (omega arith)
 listing_skip ids from (i ∷ rest) d set listing some le = rw (take_rest (i ∷ rest) 1) (IsListing-skip ids from i rest set listing le)
 
-pub listing_end : (ids : List Id) (from : ℕ) (rest : List Id) (old new : List (ℕ × ℕ)) → IsListing ids from rest old → length rest < 1 → Adds (from, 2 ^ 64 - 1) old new → KeepsExactly new (λ id. IsListed ids id ⊎ (from ≤ id))
+pub listing_end : (ids : List Id) (from : ℕ) (rest : List Id) (old new : List (ℕ × ℕ)) → IsListing ids from rest old → length rest < 1
+    → Adds (from, 2 ^ 64 - 1) old new → KeepsExactly new (λ id. IsListed ids id ⊎ (from ≤ id))
 listing_end ids from [] old new listing none adds = IsListing-end ids from (2 ^ 64 - 1) old new listing refl adds
 listing_end ids from (i ∷ rest) old new listing none adds = absurd (omega arith)
 
@@ -156,7 +165,8 @@ pub sorted_ids : (ids : List Id) → AllAdjacentBelow (λ (x y : Id). is_le (nat
 sorted_ids ids sorted = IsNonDecreasingBy-from_all_adjacent (λ (id : Id). id.0) ids (λ k d within. le_from_is_le _ _ (sorted k d within))
 
 -- the order of the ids is all one to a set of them
-pub exact_in_order : (ids sorted : List Id) (from : ℕ) (set : List (ℕ × ℕ)) → IsPermutation ids sorted → KeepsExactly set (λ id. IsListed sorted id ⊎ (from ≤ id)) → KeepsExactly set (λ id. IsListed ids id ⊎ (from ≤ id))
+pub exact_in_order : (ids sorted : List Id) (from : ℕ) (set : List (ℕ × ℕ)) → IsPermutation ids sorted
+    → KeepsExactly set (λ id. IsListed sorted id ⊎ (from ≤ id)) → KeepsExactly set (λ id. IsListed ids id ⊎ (from ≤ id))
 exact_in_order ids sorted from set moved exact id below =
     let i : Id = record { 0 = id } in (
       λ kept. elim ((exact id below).0 kept) [
@@ -170,6 +180,8 @@ exact_in_order ids sorted from set moved exact id below =
     )
 
 -- the same of an answer that may be an error
-pub ok_in_order : {E : Type 0} (ids sorted : List Id) (from : ℕ) (result : Result (List (ℕ × ℕ)) E) → IsPermutation ids sorted → IfOk result (λ set. KeepsExactly set (λ id. IsListed sorted id ⊎ (from ≤ id))) → IfOk result (λ set. KeepsExactly set (λ id. IsListed ids id ⊎ (from ≤ id)))
+pub ok_in_order : {E : Type 0} (ids sorted : List Id) (from : ℕ) (result : Result (List (ℕ × ℕ)) E) → IsPermutation ids sorted
+    → IfOk result (λ set. KeepsExactly set (λ id. IsListed sorted id ⊎ (from ≤ id)))
+    → IfOk result (λ set. KeepsExactly set (λ id. IsListed ids id ⊎ (from ≤ id)))
 ok_in_order ids sorted from (Ok set) moved exact = exact_in_order ids sorted from set moved exact
 ok_in_order ids sorted from (Err error) moved exact = tt

@@ -63,7 +63,8 @@ exact_both : (Set : ℕ → Type 0) (a b : List (ℕ × ℕ)) → KeepsExactly a
 exact_both Set a b ea eb id below = (λ kept. (eb id below).1 ((ea id below).0 kept), λ kept. (ea id below).1 ((eb id below).0 kept))
 
 -- a set of too many intervals has no other list that is a retention
-pub not_retention : (Set : ℕ → Type 0) (count : ℕ) (list : List (ℕ × ℕ)) → IsTooMany (λ kept. KeepsExactly kept Set) count → KeepsExactly list Set → ¬ IsRetention list
+pub not_retention : (Set : ℕ → Type 0) (count : ℕ) (list : List (ℕ × ℕ)) → IsTooMany (λ kept. KeepsExactly kept Set) count → KeepsExactly list Set
+    → ¬ IsRetention list
 not_retention Set count list many exact retention =
     let same : many.list ≡ list = same_list many.list list many.intervals retention.intervals (exact_both Set many.list list many.meets exact) in
     let long : 4096 < length list = rw same at many.many in

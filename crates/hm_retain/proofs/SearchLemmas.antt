@@ -28,7 +28,8 @@ is_interval_at least (y ∷ ys) x back rise =
     record { above = omega arith; ordered = later.ordered; bounded = later.bounded }
 
 -- an id below an interval is kept exactly where what stands before keeps it
-pub keeps_before : (least : ℕ) (front : List (ℕ × ℕ)) (x : ℕ × ℕ) (back : List (ℕ × ℕ)) (id : ℕ) → RiseFrom least (front ++ x ∷ back) → id < x.0 → (Keeps (front ++ x ∷ back) id ↔ Keeps front id)
+pub keeps_before : (least : ℕ) (front : List (ℕ × ℕ)) (x : ℕ × ℕ) (back : List (ℕ × ℕ)) (id : ℕ) → RiseFrom least (front ++ x ∷ back) → id < x.0
+    → (Keeps (front ++ x ∷ back) id ↔ Keeps front id)
 keeps_before least [] x back id rise less = (
   λ either. elim either [
     | inl held ↦ absurd (omega arith)
@@ -43,7 +44,8 @@ keeps_before least (y ∷ ys) x back id rise less =
     )
 
 -- an id above an interval is kept exactly where what stands after keeps it
-pub keeps_after : (least : ℕ) (front : List (ℕ × ℕ)) (x : ℕ × ℕ) (back : List (ℕ × ℕ)) (id : ℕ) → RiseFrom least (front ++ x ∷ back) → x.1 < id → (Keeps (front ++ x ∷ back) id ↔ Keeps back id)
+pub keeps_after : (least : ℕ) (front : List (ℕ × ℕ)) (x : ℕ × ℕ) (back : List (ℕ × ℕ)) (id : ℕ) → RiseFrom least (front ++ x ∷ back) → x.1 < id
+    → (Keeps (front ++ x ∷ back) id ↔ Keeps back id)
 keeps_after least [] x back id rise less = (
   λ either. elim either [ inl held ↦ absurd (omega arith) | inr kept ↦ kept ],
   λ kept. inr kept,
@@ -77,7 +79,8 @@ IsSearched-all list id part is retention = record {
 }
 
 -- a list about one of its pairs
-pub numbers_about : (part : List (Id × Id)) (m : ℕ) (d : Id × Id) → m < length part → numbers_of part ≡ numbers_of (take m part) ++ number_pair (get_or part m d) ∷ numbers_of (drop (m + 1) part)
+pub numbers_about : (part : List (Id × Id)) (m : ℕ) (d : Id × Id) → m < length part
+    → numbers_of part ≡ numbers_of (take m part) ++ number_pair (get_or part m d) ∷ numbers_of (drop (m + 1) part)
 numbers_about part m d within =
     let whole : take m part ++ drop m part ≡ part = take-append-drop m part in
     let rest : drop m part ≡ get_or part m d ∷ drop (m + 1) part = rw add-one (drop-cons part m d within) in
@@ -85,7 +88,8 @@ numbers_about part m d within =
     ap numbers_of (sym both) ∙ map-append number_pair (take m part) (get_or part m d ∷ drop (m + 1) part)
 
 -- the search goes on before the middle
-pub searched_before : (list : List (ℕ × ℕ)) (id : ℕ) (part : List (Id × Id)) (m : ℕ) (d : Id × Id) → IsSearched list id part → m < length part → id < (get_or part m d).0.0 → IsSearched list id (take m part)
+pub searched_before : (list : List (ℕ × ℕ)) (id : ℕ) (part : List (Id × Id)) (m : ℕ) (d : Id × Id) → IsSearched list id part → m < length part
+    → id < (get_or part m d).0.0 → IsSearched list id (take m part)
 searched_before list id part m d searched within less =
     let front : List (ℕ × ℕ) = numbers_of (take m part) in
     let x : ℕ × ℕ = number_pair (get_or part m d) in
@@ -101,7 +105,8 @@ searched_before list id part m d searched within less =
     }
 
 -- the search goes on after the middle
-pub searched_after : (list : List (ℕ × ℕ)) (id : ℕ) (part : List (Id × Id)) (m : ℕ) (d : Id × Id) → IsSearched list id part → m < length part → (get_or part m d).1.0 < id → IsSearched list id (take (length part - (m + 1)) (drop (m + 1) part))
+pub searched_after : (list : List (ℕ × ℕ)) (id : ℕ) (part : List (Id × Id)) (m : ℕ) (d : Id × Id) → IsSearched list id part → m < length part
+    → (get_or part m d).1.0 < id → IsSearched list id (take (length part - (m + 1)) (drop (m + 1) part))
 searched_after list id part m d searched within less =
     let front : List (ℕ × ℕ) = numbers_of (take m part) in
     let x : ℕ × ℕ = number_pair (get_or part m d) in
@@ -118,7 +123,9 @@ searched_after list id part m d searched within less =
     rw (take_rest part (m + 1)) after
 
 -- the interval in the middle holds the id
-pub searched_found : (list : List (ℕ × ℕ)) (id : ℕ) (part : List (Id × Id)) (m : ℕ) (d : Id × Id) → IsSearched list id part → m < length part → (get_or part m d).0.0 ≤ id → id ≤ (get_or part m d).1.0 → Keeps list id
+pub searched_found : (list : List (ℕ × ℕ)) (id : ℕ) (part : List (Id × Id)) (m : ℕ) (d : Id × Id) → IsSearched list id part → m < length part
+    → (get_or part m d).0.0 ≤ id → id ≤ (get_or part m d).1.0 → Keeps list id
 searched_found list id part m d searched within low high =
-    let keeps : Keeps (numbers_of (take m part) ++ number_pair (get_or part m d) ∷ numbers_of (drop (m + 1) part)) id ↔ Keeps list id = rw (numbers_about part m d within) at searched.keeps in
+    let keeps : Keeps (numbers_of (take m part) ++ number_pair (get_or part m d) ∷ numbers_of (drop (m + 1) part)) id ↔ Keeps list id =
+    rw (numbers_about part m d within) at searched.keeps in
     keeps.0 (keeps_at (numbers_of (take m part)) (number_pair (get_or part m d)) (numbers_of (drop (m + 1) part)) id (low, high))

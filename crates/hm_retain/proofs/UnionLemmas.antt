@@ -41,14 +41,16 @@ head_begins : (low : ℕ) (x : ℕ × ℕ) (rest set : List (ℕ × ℕ)) → Ri
 head_begins low x rest set rise begin = BeginBy-higher low x.0 set rise.0.above begin
 
 -- the head of one list may come at the end
-pub IsUnion-begin : (wa wb a b : List (ℕ × ℕ)) (x : ℕ × ℕ) (more_a more_b set : List (ℕ × ℕ)) → IsUnion wa wb a b set → TakesEarliest a b x more_a more_b → BeginBy x.0 set
+pub IsUnion-begin : (wa wb a b : List (ℕ × ℕ)) (x : ℕ × ℕ) (more_a more_b set : List (ℕ × ℕ)) → IsUnion wa wb a b set
+    → TakesEarliest a b x more_a more_b → BeginBy x.0 set
 IsUnion-begin wa wb a b x more_a more_b set union takes =
     elim takes [
       | inl left ↦ let rise : RiseFrom union.low (x ∷ more_a) = rw left.0 at union.a_rises in head_begins union.low x more_a set rise union.begin
       | inr right ↦ let rise : RiseFrom union.low (x ∷ more_b) = rw right.0 at union.b_rises in head_begins union.low x more_b set rise union.begin
     ]
 
-left_step : (wa wb : List (ℕ × ℕ)) (x : ℕ × ℕ) (a b old new : List (ℕ × ℕ)) → IsUnion wa wb (x ∷ a) b old → HeadFrom x.0 b → Adds x old new → IsUnion wa wb a b new
+left_step : (wa wb : List (ℕ × ℕ)) (x : ℕ × ℕ) (a b old new : List (ℕ × ℕ)) → IsUnion wa wb (x ∷ a) b old → HeadFrom x.0 b → Adds x old new
+    → IsUnion wa wb a b new
 left_step wa wb x a b old new union head adds =
     let ordered : x.0 ≤ x.1 = union.a_rises.0.ordered in
     record {
@@ -87,7 +89,8 @@ swap_sides wa wb a b set union = record {
 }
 
 -- the head of one list goes to the end
-pub IsUnion-step : (wa wb a b : List (ℕ × ℕ)) (x : ℕ × ℕ) (more_a more_b old new : List (ℕ × ℕ)) → IsUnion wa wb a b old → TakesEarliest a b x more_a more_b → Adds x old new → IsUnion wa wb more_a more_b new
+pub IsUnion-step : (wa wb a b : List (ℕ × ℕ)) (x : ℕ × ℕ) (more_a more_b old new : List (ℕ × ℕ)) → IsUnion wa wb a b old
+    → TakesEarliest a b x more_a more_b → Adds x old new → IsUnion wa wb more_a more_b new
 IsUnion-step wa wb a b x more_a more_b old new union takes adds =
     elim takes [
       | inl left ↦

@@ -38,7 +38,8 @@ IsShared-begin wa wb x y a b set shared =
     BeginBy-higher (max shared.low_a shared.low_b) (max x.0 y.0) set (omega arith) shared.begin
 
 -- the first list's head ends first
-pub IsShared-left : (wa wb : List (ℕ × ℕ)) (x y : ℕ × ℕ) (a b old new : List (ℕ × ℕ)) → IsShared wa wb (x ∷ a) (y ∷ b) old → AddsShared x y old new → x.1 < y.1 → IsShared wa wb a (y ∷ b) new
+pub IsShared-left : (wa wb : List (ℕ × ℕ)) (x y : ℕ × ℕ) (a b old new : List (ℕ × ℕ)) → IsShared wa wb (x ∷ a) (y ∷ b) old → AddsShared x y old new
+    → x.1 < y.1 → IsShared wa wb a (y ∷ b) new
 IsShared-left wa wb x y a b old new shared adds less =
     let ordered : x.0 ≤ x.1 = shared.a_rises.0.ordered in
     record {
@@ -66,7 +67,8 @@ IsShared-left wa wb x y a b old new shared adds less =
     }
 
 -- the second list's head ends no later
-pub IsShared-right : (wa wb : List (ℕ × ℕ)) (x y : ℕ × ℕ) (a b old new : List (ℕ × ℕ)) → IsShared wa wb (x ∷ a) (y ∷ b) old → AddsShared x y old new → y.1 ≤ x.1 → IsShared wa wb (x ∷ a) b new
+pub IsShared-right : (wa wb : List (ℕ × ℕ)) (x y : ℕ × ℕ) (a b old new : List (ℕ × ℕ)) → IsShared wa wb (x ∷ a) (y ∷ b) old → AddsShared x y old new
+    → y.1 ≤ x.1 → IsShared wa wb (x ∷ a) b new
 IsShared-right wa wb x y a b old new shared adds le =
     let ordered : y.0 ≤ y.1 = shared.b_rises.0.ordered in
     record {
@@ -110,7 +112,13 @@ IsShared-right_end wa wb a set shared id = (
 pub AddsShared-some : (x y : ℕ × ℕ) (old new : List (ℕ × ℕ)) → Adds (max x.0 y.0, min x.1 y.1) old new → AddsShared x y old new
 AddsShared-some x y old new adds = record {
   keeps = λ id. (
-    λ kept. elim ((adds.keeps id).0 kept) [ inl was ↦ inl was | inr held ↦ inr ((omega (arith, held.0), omega (arith, held.1)), (omega (arith, held.0), omega (arith, held.1))) ],
+    λ kept. elim ((adds.keeps id).0 kept) [
+      | inl was ↦ inl was
+      | inr held ↦ inr (
+        (omega (arith, held.0), omega (arith, held.1)),
+        (omega (arith, held.0), omega (arith, held.1)),
+      )
+    ],
     λ either. (adds.keeps id).1 (elim either [ inl was ↦ inl was | inr both ↦ inr (omega (arith, both.0.0, both.1.0), omega (arith, both.0.1, both.1.1)) ]),
   );
   begin = adds.begin;
@@ -127,20 +135,27 @@ AddsShared-none x y old apart begin = record {
 }
 
 -- what the heads of two lists share may come at the end
-pub shared_begin : (wa wb : List (ℕ × ℕ)) (a b : List (Id × Id)) (d : Id × Id) (set : List (ℕ × ℕ)) → IsShared wa wb (numbers_of a) (numbers_of b) set → 1 ≤ length a → 1 ≤ length b → BeginBy (max (get_or a 0 d).0.0 (get_or b 0 d).0.0) set
+pub shared_begin : (wa wb : List (ℕ × ℕ)) (a b : List (Id × Id)) (d : Id × Id) (set : List (ℕ × ℕ)) → IsShared wa wb (numbers_of a) (numbers_of b) set
+    → 1 ≤ length a → 1 ≤ length b → BeginBy (max (get_or a 0 d).0.0 (get_or b 0 d).0.0) set
 shared_begin wa wb [] b d set shared some_a some_b = absurd (omega arith)
 shared_begin wa wb (x ∷ a) [] d set shared some_a some_b = absurd (omega arith)
 shared_begin wa wb (x ∷ a) (y ∷ b) d set shared some_a some_b = IsShared-begin wa wb (number_pair x) (number_pair y) (numbers_of a) (numbers_of b) set shared
 
 -- the first list goes on
-pub shared_left : (wa wb : List (ℕ × ℕ)) (a b : List (Id × Id)) (d : Id × Id) (old new : List (ℕ × ℕ)) → IsShared wa wb (numbers_of a) (numbers_of b) old → 1 ≤ length a → 1 ≤ length b → AddsShared (number_pair (get_or a 0 d)) (number_pair (get_or b 0 d)) old new → (get_or a 0 d).1.0 < (get_or b 0 d).1.0 → IsShared wa wb (numbers_of (take (length a - 1) (drop 1 a))) (numbers_of b) new
+pub shared_left : (wa wb : List (ℕ × ℕ)) (a b : List (Id × Id)) (d : Id × Id) (old new : List (ℕ × ℕ))
+    → IsShared wa wb (numbers_of a) (numbers_of b) old → 1 ≤ length a → 1 ≤ length b
+    → AddsShared (number_pair (get_or a 0 d)) (number_pair (get_or b 0 d)) old new → (get_or a 0 d).1.0 < (get_or b 0 d).1.0
+    → IsShared wa wb (numbers_of (take (length a - 1) (drop 1 a))) (numbers_of b) new
 shared_left wa wb [] b d old new shared some_a some_b adds less = absurd (omega arith)
 shared_left wa wb (x ∷ a) [] d old new shared some_a some_b adds less = absurd (omega arith)
 shared_left wa wb (x ∷ a) (y ∷ b) d old new shared some_a some_b adds less =
     rw (take_rest (x ∷ a) 1) (IsShared-left wa wb (number_pair x) (number_pair y) (numbers_of a) (numbers_of b) old new shared adds less)
 
 -- the second list goes on
-pub shared_right : (wa wb : List (ℕ × ℕ)) (a b : List (Id × Id)) (d : Id × Id) (old new : List (ℕ × ℕ)) → IsShared wa wb (numbers_of a) (numbers_of b) old → 1 ≤ length a → 1 ≤ length b → AddsShared (number_pair (get_or a 0 d)) (number_pair (get_or b 0 d)) old new → (get_or b 0 d).1.0 ≤ (get_or a 0 d).1.0 → IsShared wa wb (numbers_of a) (numbers_of (take (length b - 1) (drop 1 b))) new
+pub shared_right : (wa wb : List (ℕ × ℕ)) (a b : List (Id × Id)) (d : Id × Id) (old new : List (ℕ × ℕ))
+    → IsShared wa wb (numbers_of a) (numbers_of b) old → 1 ≤ length a → 1 ≤ length b
+    → AddsShared (number_pair (get_or a 0 d)) (number_pair (get_or b 0 d)) old new → (get_or b 0 d).1.0 ≤ (get_or a 0 d).1.0
+    → IsShared wa wb (numbers_of a) (numbers_of (take (length b - 1) (drop 1 b))) new
 shared_right wa wb [] b d old new shared some_a some_b adds le = absurd (omega arith)
 shared_right wa wb (x ∷ a) [] d old new shared some_a some_b adds le = absurd (omega arith)
 shared_right wa wb (x ∷ a) (y ∷ b) d old new shared some_a some_b adds le =

@@ -39,7 +39,8 @@ with_line-is true line (block ∷ blocks) = refl
 with_line-is false line blocks = refl
 
 -- lines in front of a line in front
-joined-line : (b : Bool) (first : List Line) (line : Line) (blocks : List (List Line)) → joined true first (with_line b line blocks) ≡ joined b (first ++ line ∷ []) blocks
+joined-line : (b : Bool) (first : List Line) (line : Line) (blocks : List (List Line))
+    → joined true first (with_line b line blocks) ≡ joined b (first ++ line ∷ []) blocks
 unfolding joined
 joined-line true first line [] = refl
 joined-line true first line (block ∷ blocks) = rw append_assoc refl
@@ -49,21 +50,26 @@ joined-line false first line blocks = refl
 AllGathered : List (Option Line) → Type 0
 AllGathered lines =
     ((done : List (List Line)) → closed (gathered_from (done, []) lines) ≡ done ++ blocks_of lines)
-    × ((done : List (List Line)) (line : Line) (lanes : List Line) → closed (gathered_from (done, line ∷ lanes) lines) ≡ done ++ joined (next_laned lines) (line ∷ lanes) (blocks_of lines))
+    × ((done : List (List Line)) (line : Line) (lanes : List Line)
+    → closed (gathered_from (done, line ∷ lanes) lines) ≡ done ++ joined (next_laned lines) (line ∷ lanes) (blocks_of lines))
 
 -- one more line in front, where no block is open
-step-closed : (b : Bool) (next : Line) (lines : List (Option Line)) → AllGathered lines → (done : List (List Line)) → closed (gathered_from (gather_line b (done, []) next) lines) ≡ done ++ with_line (b && next_laned lines) next (blocks_of lines)
+step-closed : (b : Bool) (next : Line) (lines : List (Option Line)) → AllGathered lines → (done : List (List Line))
+    → closed (gathered_from (gather_line b (done, []) next) lines) ≡ done ++ with_line (b && next_laned lines) next (blocks_of lines)
 unfolding AllGathered
 step-closed true next lines all done = all.1 done next [] ∙ ap (λ bs. done ++ bs) (sym (with_line-is (next_laned lines) next (blocks_of lines)))
 step-closed false next lines all done = all.0 (done ++ (next ∷ []) ∷ []) ∙ append_assoc done ((next ∷ []) ∷ []) (blocks_of lines)
 
 -- one more line in front, where a block is open
-step-open : (b : Bool) (next : Line) (lines : List (Option Line)) → AllGathered lines → (done : List (List Line)) (line : Line) (lanes : List Line) → closed (gathered_from (gather_line b (done, line ∷ lanes) next) lines) ≡ done ++ joined b (line ∷ lanes) (with_line (b && next_laned lines) next (blocks_of lines))
+step-open : (b : Bool) (next : Line) (lines : List (Option Line)) → AllGathered lines → (done : List (List Line)) (line : Line) (lanes : List Line)
+    → closed (gathered_from (gather_line b (done, line ∷ lanes) next) lines) ≡ done ++ joined b (line ∷ lanes)
+    (with_line (b && next_laned lines) next (blocks_of lines))
 unfolding AllGathered joined
 step-open true next lines all done line lanes =
     all.1 done line (lanes ++ next ∷ []) ∙ ap (λ bs. done ++ bs) (sym (joined-line (next_laned lines) (line ∷ lanes) next (blocks_of lines)))
 step-open false next lines all done line lanes =
-    all.0 ((done ++ (line ∷ lanes) ∷ []) ++ (next ∷ []) ∷ []) ∙ (append_assoc (done ++ (line ∷ lanes) ∷ []) ((next ∷ []) ∷ []) (blocks_of lines) ∙ append_assoc done ((line ∷ lanes) ∷ []) ((next ∷ []) ∷ blocks_of lines))
+    all.0 ((done ++ (line ∷ lanes) ∷ []) ++ (next ∷ []) ∷ []) ∙ (append_assoc (done ++ (line ∷ lanes) ∷ []) ((next ∷ []) ∷ []) (blocks_of lines)
+    ∙ append_assoc done ((line ∷ lanes) ∷ []) ((next ∷ []) ∷ blocks_of lines))
 
 all_gathered : (lines : List (Option Line)) → AllGathered lines
 unfolding AllGathered joined next_laned

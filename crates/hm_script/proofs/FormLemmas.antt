@@ -2,7 +2,8 @@
 use Rattle.std.proofs.Common.{◌≡◌, ℕ, ◌+◌, ◌≤◌, List, [], ◌∷◌, codes, length, refl, arith}
 use Rattle.std.proofs.lemmas.Grind.{common_steps}
 use Rattle.hm_model.specs.declared.command.Command.{Command}
-use Rattle.hm_model.specs.declared.command.Command.TheVariants.{Mkdir, Touch, Snapshot, Rm, Rmdir, Ls, Stat, Readlink, Prune, PruneAll, PfsStatus, PfsUpgrade, MirrorRead, MirrorWrite}
+use Rattle.hm_model.specs.declared.command.Command.TheVariants.{Mkdir, Touch, Snapshot, Rm, Rmdir, Ls, Stat, Readlink, Prune, PruneAll, PfsStatus}
+use Rattle.hm_model.specs.declared.command.Command.TheVariants.{PfsUpgrade, MirrorRead, MirrorWrite}
 use Rattle.std.proofs.lemmas.Fmt.{decimal_digit}
 use Rattle.hm_model.specs.Words.{IsLaneWord}
 use Rattle.hm_model.specs.Forms.{IsForm}

@@ -1,5 +1,6 @@
 -- The first line of a script, from what the search for its end found.
-use Rattle.std.proofs.Common.{◌≡◌, ◌≢◌, ℕ, ◌+◌, ◌-◌, ◌<◌, ◌≤◌, true, List, [], ◌∷◌, ◌++◌, length, take, drop, get_or, suc, refl, sym, ◌∙◌, ap, arith, add-one, append_assoc, append-nil, length-append}
+use Rattle.std.proofs.Common.{◌≡◌, ◌≢◌, ℕ, ◌+◌, ◌-◌, ◌<◌, ◌≤◌, true, List, [], ◌∷◌, ◌++◌, length, take, drop, get_or, suc, refl, sym, ◌∙◌, ap, arith}
+use Rattle.std.proofs.Common.{add-one, append_assoc, append-nil, length-append}
 use Rattle.std.specs.Bool.{◌==◌}
 use Rattle.std.proofs.Math.Seq.{drop-append_seam, take-add, take-append_seam, take-length}
 use Rattle.std.proofs.lemmas.List.{get_or-take, get_or_append_left, length-drop, length-take-le, take-append-drop, take-append-le, take_all}

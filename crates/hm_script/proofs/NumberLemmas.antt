@@ -49,7 +49,8 @@ no_number-large word i value is_value large number is =
     absurd (omega (arith, digits_value-take-le 10 word i (omega arith), value_of_number word number is, is.bounded))
 
 -- digits without a leading zero spell their number
-pub number_of_digits : (word : List ℕ) (number : ℕ) → AllDigits 10 word → 0 < length word → (get_or word 0 0 ≡ 48 → length word ≡ 1) → number ≡ digits_value 10 word → number < 2 ^ 64 → IsNumber word number
+pub number_of_digits : (word : List ℕ) (number : ℕ) → AllDigits 10 word → 0 < length word → (get_or word 0 0 ≡ 48 → length word ≡ 1)
+    → number ≡ digits_value 10 word → number < 2 ^ 64 → IsNumber word number
 number_of_digits word number all some plain value small = record {
   written = rw value (sym (decimal-digits_value own word all some plain (rw value at small)));
   bounded = small;

@@ -6,7 +6,9 @@ use Rattle.std.proofs.lemmas.Slice.Eq.{bytes_eq-Decides}
 use Rattle.hex.proofs.HexLemmas.{decode_of-same}
 use Rattle.hm_types.specs.declared.id.Id.{Id}
 use Rattle.hm_model.specs.declared.command.Command.{Command}
-use Rattle.hm_model.specs.declared.command.Command.TheVariants.{Mkdir, Touch, Symlink, Snapshot, Ln, Mv, Write, Fill, Truncate, Rm, Rmdir, Ls, Cat, Stat, Readlink, Sync, Synctid, Prune, PruneAll, Reblock, PfsMaster, PfsSlave, PfsStatus, PfsUpgrade, MirrorRead, MirrorWrite, MirrorCopy, Df, Progress, End}
+use Rattle.hm_model.specs.declared.command.Command.TheVariants.{Mkdir, Touch, Symlink, Snapshot, Ln, Mv, Write, Fill, Truncate, Rm, Rmdir, Ls, Cat}
+use Rattle.hm_model.specs.declared.command.Command.TheVariants.{Stat, Readlink, Sync, Synctid, Prune, PruneAll, Reblock, PfsMaster, PfsSlave}
+use Rattle.hm_model.specs.declared.command.Command.TheVariants.{PfsStatus, PfsUpgrade, MirrorRead, MirrorWrite, MirrorCopy, Df, Progress, End}
 use Rattle.hm_model.specs.Words.{IsNumber, IsHexNumber, IsIdWord, IsHexBytes}
 use Rattle.hm_model.specs.Forms.{IsForm}
 use Rattle.hm_script.proofs.NumberLemmas.{number_is_one, hex_number_is_one, id_is_one}
@@ -127,7 +129,12 @@ form_is_one words (Mv u v) (Mv x y) p q = cc (same_word 1 p q, same_word 2 p q)
 form_is_one words (Write u o x) (Write v o' y) p q =
     cc (same_word 1 p.2 q.2, number_of_same p.0 q.0 o o' (same_word 2 p.2 q.2) p.3 q.3, bytes_of_same p.1 q.1 x y (same_word 3 p.2 q.2) p.4 q.4)
 form_is_one words (Fill u o c b) (Fill v o' c' b') p q =
-    cc (same_word 1 p.3 q.3, number_of_same p.0 q.0 o o' (same_word 2 p.3 q.3) p.4 q.4, number_of_same p.1 q.1 c c' (same_word 3 p.3 q.3) p.5 q.5, hex_of_same 2 p.2 q.2 b b' (same_word 4 p.3 q.3) p.6 q.6)
+    cc (
+      same_word 1 p.3 q.3,
+      number_of_same p.0 q.0 o o' (same_word 2 p.3 q.3) p.4 q.4,
+      number_of_same p.1 q.1 c c' (same_word 3 p.3 q.3) p.5 q.5,
+      hex_of_same 2 p.2 q.2 b b' (same_word 4 p.3 q.3) p.6 q.6,
+    )
 form_is_one words (Truncate u s) (Truncate v t) p q =
     cc (same_word 1 p.1 q.1, number_of_same p.0 q.0 s t (same_word 2 p.1 q.1) p.2 q.2)
 form_is_one words (Cat u o c) (Cat v o' c') p q =

@@ -26,7 +26,8 @@ good_texts number (text ∷ texts) (line ∷ lines) read =
     All-cons IsGood text texts (good_text number text line read.0) (good_texts (number + 1) texts lines read.1)
 
 -- one more text was read
-read_more : (number : ℕ) (texts : List (List ℕ)) (lines : List (Option Line)) (text : List ℕ) (line : Option Line) → ReadEach number texts lines → Reads (number + length texts) text line → ReadEach number (texts ++ text ∷ []) (lines ++ line ∷ [])
+read_more : (number : ℕ) (texts : List (List ℕ)) (lines : List (Option Line)) (text : List ℕ) (line : Option Line) → ReadEach number texts lines
+    → Reads (number + length texts) text line → ReadEach number (texts ++ text ∷ []) (lines ++ line ∷ [])
 read_more number [] [] text line read reads =
     let same : number + 0 ≡ number = omega arith in
     (rw same at reads, tt)
@@ -37,12 +38,14 @@ read_more number (t ∷ texts) (l ∷ lines) text line read reads =
     (read.0, read_more (number + 1) texts lines text line read.1 (rw same at reads))
 
 -- one more line was gathered
-gathered_more : (lines : List (Option Line)) (line : Option Line) (gathered : Gathered) → gathered_from gathered (lines ++ line ∷ []) ≡ gather (gathered_from gathered lines) line
+gathered_more : (lines : List (Option Line)) (line : Option Line) (gathered : Gathered)
+    → gathered_from gathered (lines ++ line ∷ []) ≡ gather (gathered_from gathered lines) line
 gathered_more [] line gathered = refl
 gathered_more (l ∷ lines) line gathered = gathered_more lines line (gather gathered l)
 
 -- the script was read one line further
-pub read_further : (bytes rest text after : List ℕ) (number : ℕ) (blocks next : Gathered) → IsReadSoFar bytes rest number blocks → texts_of rest ≡ text ∷ texts_of after → Adds (number + 1) text blocks next → IsReadSoFar bytes after (number + 1) next
+pub read_further : (bytes rest text after : List ℕ) (number : ℕ) (blocks next : Gathered) → IsReadSoFar bytes rest number blocks
+    → texts_of rest ≡ text ∷ texts_of after → Adds (number + 1) text blocks next → IsReadSoFar bytes after (number + 1) next
 read_further bytes rest text after number blocks next so_far cut adds =
     let place : number + 1 ≡ 1 + length so_far.texts = omega (arith, so_far.count) in
     record {
@@ -65,7 +68,8 @@ read_all bytes rest number blocks none so_far =
     }
 
 -- the line at hand is the first bad one
-first_bad : (bytes rest text after : List ℕ) (number : ℕ) (blocks : Gathered) → IsReadSoFar bytes rest number blocks → texts_of rest ≡ text ∷ texts_of after → IsBad text → IsFirstBadLine bytes (number + 1)
+first_bad : (bytes rest text after : List ℕ) (number : ℕ) (blocks : Gathered) → IsReadSoFar bytes rest number blocks
+    → texts_of rest ≡ text ∷ texts_of after → IsBad text → IsFirstBadLine bytes (number + 1)
 first_bad bytes rest text after number blocks so_far cut bad = record {
   before = so_far.texts;
   bad = text;
@@ -77,13 +81,15 @@ first_bad bytes rest text after number blocks so_far cut bad = record {
 }
 
 -- why the line at hand was not added is why the lines were not read
-pub line_fault : (bytes rest text after : List ℕ) (number : ℕ) (blocks : Gathered) → IsReadSoFar bytes rest number blocks → texts_of rest ≡ text ∷ texts_of after → (fault : ScriptFault) → IsTextFault (number + 1) text fault → IsLineFault bytes fault
+pub line_fault : (bytes rest text after : List ℕ) (number : ℕ) (blocks : Gathered) → IsReadSoFar bytes rest number blocks
+    → texts_of rest ≡ text ∷ texts_of after → (fault : ScriptFault) → IsTextFault (number + 1) text fault → IsLineFault bytes fault
 line_fault bytes rest text after number blocks so_far cut (BadLine bad) is =
     rw is.0 (first_bad bytes rest text after number blocks so_far cut is.1)
 line_fault bytes rest text after number blocks so_far cut TooLong is = absurd is
 line_fault bytes rest text after number blocks so_far cut NoMemory is = tt
 
 -- an error that is handed up stays what it is
-pub same_fault : {T : Type 0} (P : ScriptFault → Type 0) (result : Result T ScriptFault) (fault : ScriptFault) → IsErrAnd result (λ e. e ≡ fault) → P fault → IfErr result P
+pub same_fault : {T : Type 0} (P : ScriptFault → Type 0) (result : Result T ScriptFault) (fault : ScriptFault) → IsErrAnd result (λ e. e ≡ fault)
+    → P fault → IfErr result P
 same_fault P (Ok x) fault same is = tt
 same_fault P (Err e) fault same is = rw same is

@@ -1,5 +1,6 @@
 -- A script is one only, and so is its first bad line.
-use Rattle.std.proofs.Common.{◌≡◌, inl, inr, ℕ, suc, ◌+◌, ◌<◌, List, [], ◌∷◌, ◌++◌, Option, Some, None, All, length, get_or, refl, sym, ◌∙◌, ap, subst, arith, length-append}
+use Rattle.std.proofs.Common.{◌≡◌, inl, inr, ℕ, suc, ◌+◌, ◌<◌, List, [], ◌∷◌, ◌++◌, Option, Some, None, All, length, get_or, refl, sym, ◌∙◌, ap}
+use Rattle.std.proofs.Common.{subst, arith, length-append}
 use Rattle.std.proofs.lemmas.Fmt.{decimal_digit}
 use Rattle.std.proofs.lemmas.List.Elements.{All-head, All-tail}
 use Rattle.hm_model.specs.declared.command.Command.{Command}
@@ -22,7 +23,8 @@ lane_is_one v w m n same p q =
     omega (arith, ap (λ ds. get_or ds 0 0) (sym left ∙ (same ∙ right)))
 
 -- the same words, in the same lane, where they are forms
-laned_is_one : (text : List ℕ) (m n : ℕ) (v w : List (List ℕ)) (a b : Command) → IsForm v a → IsForm w b → IsLaned text m v → IsLaned text n w → (m ≡ n) × (v ≡ w)
+laned_is_one : (text : List ℕ) (m n : ℕ) (v w : List (List ℕ)) (a b : Command) → IsForm v a → IsForm w b → IsLaned text m v → IsLaned text n w
+    → (m ≡ n) × (v ≡ w)
 laned_is_one text m n v w a b is is' (inl p) (inl q) = (p.0 ∙ sym q.0, words_are_one text v w p.1 q.1)
 laned_is_one text m n v w a b is is' (inl p) (inr q) =
     let same : v ≡ q.0 ∷ w = words_are_one text v (q.0 ∷ w) p.1 q.2 in
@@ -67,7 +69,8 @@ script_is_one bytes a b p q =
     p.blocks_are ∙ (ap blocks_of (each_is_one 1 (texts_of bytes) p.lines q.lines p.read q.read) ∙ sym q.blocks_are)
 
 -- texts that are all good before a bad one, in two ways
-fronts_are_one : (f g : List (List ℕ)) (x y : List ℕ) (r s : List (List ℕ)) → f ++ x ∷ r ≡ g ++ y ∷ s → All IsGood f → All IsGood g → IsBad x → IsBad y → length f ≡ length g
+fronts_are_one : (f g : List (List ℕ)) (x y : List ℕ) (r s : List (List ℕ)) → f ++ x ∷ r ≡ g ++ y ∷ s → All IsGood f → All IsGood g → IsBad x
+    → IsBad y → length f ≡ length g
 fronts_are_one [] [] x y r s same good good' bad bad' = refl
 fronts_are_one [] (t ∷ g) x y r s same good good' bad bad' =
     let head : t ≡ x = cc in

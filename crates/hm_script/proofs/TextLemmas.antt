@@ -28,20 +28,23 @@ pub words_are_one : (text : List ℕ) (v w : List (List ℕ)) → AreWords text 
 words_are_one text v w p q = sym p.split ∙ q.split
 
 -- words that give a command beside a lane that was taken off
-no_command-bare : (words rest : List (List ℕ)) (lane : ℕ) (command : Command) → CutsLane words lane rest → IsNoCommand rest → IsForm words command → IsInRange command → ⊥
+no_command-bare : (words rest : List (List ℕ)) (lane : ℕ) (command : Command) → CutsLane words lane rest → IsNoCommand rest → IsForm words command
+    → IsInRange command → ⊥
 no_command-bare [] rest lane command cut none form in_range = no_form-none command form
 no_command-bare (word ∷ words) rest lane command (inl laned) none form in_range = no_form-lane word lane words command laned.0 form
 no_command-bare (word ∷ words) rest lane command (inr bare) none form in_range =
     none command (rw bare.2 (record { form = form; in_range = in_range }))
 
 -- words that give a command after a lane
-no_command-laned : (word : List ℕ) (words rest : List (List ℕ)) (n lane : ℕ) (command : Command) → CutsLane (word ∷ words) lane rest → IsNoCommand rest → IsLaneWord word n → IsForm words command → IsInRange command → ⊥
+no_command-laned : (word : List ℕ) (words rest : List (List ℕ)) (n lane : ℕ) (command : Command) → CutsLane (word ∷ words) lane rest
+    → IsNoCommand rest → IsLaneWord word n → IsForm words command → IsInRange command → ⊥
 no_command-laned word words rest n lane command (inl laned) none is form in_range =
     none command (rw laned.1 (record { form = form; in_range = in_range }))
 no_command-laned word words rest n lane command (inr bare) none is form in_range = bare.0 n is
 
 -- a text gives no command where its words beside the lane give none
-pub no_command : (text : List ℕ) (words rest : List (List ℕ)) (lane : ℕ) → AreWords text words → CutsLane words lane rest → IsNoCommand rest → (n : ℕ) (command : Command) → Gives text n command → ⊥
+pub no_command : (text : List ℕ) (words rest : List (List ℕ)) (lane : ℕ) → AreWords text words → CutsLane words lane rest → IsNoCommand rest
+    → (n : ℕ) (command : Command) → Gives text n command → ⊥
 no_command text words rest lane are cut none n command gives =
     elim gives.laned [
       | inl bare ↦
@@ -59,7 +62,8 @@ laned_text text (word ∷ words) rest lane are (inl laned) = inr (word, laned.0,
 laned_text text (word ∷ words) rest lane are (inr bare) = inl (bare.1, rw bare.2 are)
 
 -- a text gives the command of its words beside the lane
-pub one_command : (text : List ℕ) (words rest : List (List ℕ)) (lane : ℕ) (command : Command) → AreWords text words → CutsLane words lane rest → IsCommandOf rest command → Gives text lane command
+pub one_command : (text : List ℕ) (words rest : List (List ℕ)) (lane : ℕ) (command : Command) → AreWords text words → CutsLane words lane rest
+    → IsCommandOf rest command → Gives text lane command
 one_command text words rest lane command are cut is = record {
   words = rest;
   laned = laned_text text words rest lane are cut;

@@ -8,7 +8,8 @@ use Rattle.hm_script.specs.declared.words.TheConstants.{MOST_WORDS}
 use Rattle.hm_script.specs.Texts.{texts, IsNoText}
 
 -- one more word is kept
-pub texts_more : (words : List (Bor (List ℕ))) (n : ℕ) (word : Bor (List ℕ)) → n < length words → texts (take (n + 1) (slice_set words n word)) ≡ texts (take n words) ++ word.now ∷ []
+pub texts_more : (words : List (Bor (List ℕ))) (n : ℕ) (word : Bor (List ℕ)) → n < length words
+    → texts (take (n + 1) (slice_set words n word)) ≡ texts (take n words) ++ word.now ∷ []
 texts_more words n word within =
     ap texts (take_more_set words n word within) ∙ map-append (λ w. w.now) (take n words) (word ∷ [])
 
@@ -18,7 +19,8 @@ element_after [] bad after = refl
 element_after (word ∷ before) bad after = element_after before bad after
 
 -- a text has no words where one piece between blanks is none
-pub no_text-bad : (text : List ℕ) (before : List (List ℕ)) (bad : List ℕ) (after : List (List ℕ)) → slice_split (λ b. b == blank) text ≡ before ++ bad ∷ after → (IsWord bad → ⊥) → IsNoText text
+pub no_text-bad : (text : List ℕ) (before : List (List ℕ)) (bad : List ℕ) (after : List (List ℕ))
+    → slice_split (λ b. b == blank) text ≡ before ++ bad ∷ after → (IsWord bad → ⊥) → IsNoText text
 no_text-bad text before bad after split none words are few =
     let same : before ++ bad ∷ after ≡ words = sym split ∙ are.split in
     let within : length before < length words = omega (arith, ap length same, length-append before (bad ∷ after)) in
@@ -26,7 +28,8 @@ no_text-bad text before bad after split none words are few =
     none (subst IsWord here (are.each (length before) [] within))
 
 -- a text has too many words where so many stand before another
-pub no_text-many : (text : List ℕ) (before : List (List ℕ)) (bad : List ℕ) (after : List (List ℕ)) → slice_split (λ b. b == blank) text ≡ before ++ bad ∷ after → length before ≡ MOST_WORDS → IsNoText text
+pub no_text-many : (text : List ℕ) (before : List (List ℕ)) (bad : List ℕ) (after : List (List ℕ))
+    → slice_split (λ b. b == blank) text ≡ before ++ bad ∷ after → length before ≡ MOST_WORDS → IsNoText text
 no_text-many text before bad after split many words are few =
     let same : before ++ bad ∷ after ≡ words = sym split ∙ are.split in
     absurd (omega (arith, ap length same, length-append before (bad ∷ after), few))

@@ -57,7 +57,8 @@ module _ (t : Told) (header : Header) (map : PageMap) (volume : Volume) (image r
   kept : (from to : ℕ) → 2 * SLOT_BYTES ≤ from → to ≤ start_of header.bigblocks
       → ((at : ℕ) → IsSome (map at) → (to ≤ byte_of at) ⊎ (byte_of at + PAGE_BYTES ≤ from)) → slice_range result from to ≡ slice_range image from to
   kept from to low high apart =
-      part_same image result from to has.size (λ i after before. has.others i (omega (arith, low, after)) (omega (arith, before, high, beside.size)) (outside i after before)) where
+      part_same image result from to has.size (λ i after before. has.others i (omega (arith, low, after)) (omega (arith, before, high, beside.size))
+      (outside i after before)) where
         none : (i at : ℕ) → from ≤ i → i < to → byte_of at ≤ i → i < byte_of at + PAGE_BYTES → (to ≤ byte_of at) ⊎ (byte_of at + PAGE_BYTES ≤ from) → ⊥
         none i at after before begins ends (inl past) = absurd (omega (arith, before, begins, past))
         none i at after before begins ends (inr past) = absurd (omega (arith, after, ends, past))
@@ -110,7 +111,8 @@ module _ (t : Told) (header : Header) (map : PageMap) (volume : Volume) (image r
       (All-weaker (Contains es) (λ e. HasSameBytes t.bytes result (to_payload e))
       (λ e there. payload_stands e there ∙ payload_before e there) es (All-contains_itself es)) where
         payload_before : (e : Element) → Contains (elements_in (basis_now h header.root)) e → HasSameBytes t.bytes image (to_payload e)
-        payload_before e there = All-contains (HasSameBytes t.bytes image) (map_list to_payload (elements_in (basis_now h header.root))) (to_payload e) beside.payloads
+        payload_before e there = All-contains (HasSameBytes t.bytes image) (map_list to_payload (elements_in (basis_now h header.root)))
+            (to_payload e) beside.payloads
             (has_map to_payload (elements_in (basis_now h header.root)) e there)
 
   written : IsWritten h header.root result

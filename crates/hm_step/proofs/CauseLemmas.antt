@@ -3,7 +3,8 @@ use Rattle.std.proofs.Common.{◌≡◌, ℕ, ◌<◌, ◌≤◌, max, Bool, ref
 use Rattle.std.specs.Prelude.{Option, None}
 use Rattle.hm_types.specs.Faults.{IsMedia}
 use Rattle.hm_model.specs.After.{Event}
-use Rattle.hm_model.specs.Caused.{Counts, HasCause, HasNumbers, IsCutAt, IsPossible, Known, counts_after, ended_command, is_output, known_busy, possible, possible_for, stream_count, stream_told}
+use Rattle.hm_model.specs.Caused.{Counts, HasCause, HasNumbers, IsCutAt, IsPossible, Known, counts_after, ended_command, is_output, known_busy}
+use Rattle.hm_model.specs.Caused.{possible, possible_for, stream_count, stream_told}
 use Rattle.hm_model.specs.Due.{early_checks, first_refusal, none_open}
 use Rattle.hm_model.specs.Reply.{passed_ids}
 use Rattle.hm_model.specs.declared.command.Command.{Command}

@@ -11,12 +11,16 @@ use Rattle.hm_model.specs.Answer.{file_bytes, kind_number, listing, record_of, s
 use Rattle.hm_model.specs.Bytes.{read_at}
 use Rattle.hm_model.specs.Call.{Call, all_located, each_located, first_site, second_site, site_object, site_system}
 use Rattle.hm_model.specs.Caused.{IsPossible, on_a_file, on_a_read, possible}
-use Rattle.hm_model.specs.Due.{Check, a_file, no_dir, checks, is_dir, is_dir_or_link, is_kind, is_link, is_passed, is_softlink, name_is_new, early_checks, first_refusal, has_id, fits_file, hash_is_full, hash_left, good_paths, ids_left, intervals_left, no_future, no_future_begin, none_open, is_in_slave, is_pfs_call, is_tree_call, is_way_free, new_name, new_pfs, pruned_count, own_checks, own_checks_of, past_stays, refusal, refuse_if, slaves_stay, walks}
+use Rattle.hm_model.specs.Due.{Check, a_file, no_dir, checks, is_dir, is_dir_or_link, is_kind, is_link, is_passed, is_softlink, name_is_new}
+use Rattle.hm_model.specs.Due.{early_checks, first_refusal, has_id, fits_file, hash_is_full, hash_left, good_paths, ids_left, intervals_left}
+use Rattle.hm_model.specs.Due.{no_future, no_future_begin, none_open, is_in_slave, is_pfs_call, is_tree_call, is_way_free, new_name, new_pfs}
+use Rattle.hm_model.specs.Due.{pruned_count, own_checks, own_checks_of, past_stays, refusal, refuse_if, slaves_stay, walks}
 use Rattle.hm_model.specs.Needs.{bytes_zones, held_of, has_other_link, has_other_size, names_zones, stays_put, zones_of}
 use Rattle.hm_model.specs.Sites.{Parsed, Site, TakesName, Walks, uses_of}
 use Rattle.hm_model.specs.Walk.{Follow, Follows, Stays, TakesPfs}
 use Rattle.hm_model.specs.declared.command.Command.{Command}
-use Rattle.hm_model.specs.declared.command.Command.TheVariants.{Cat, Fill, Prune, PruneAll, PfsMaster, PfsSlave, PfsStatus, Truncate, Write, Ln, Ls, Mkdir, Mv, Readlink, Rm, Rmdir, Snapshot, Stat, Symlink, Touch}
+use Rattle.hm_model.specs.declared.command.Command.TheVariants.{Cat, Fill, Prune, PruneAll, PfsMaster, PfsSlave, PfsStatus, Truncate, Write, Ln, Ls}
+use Rattle.hm_model.specs.declared.command.Command.TheVariants.{Mkdir, Mv, Readlink, Rm, Rmdir, Snapshot, Stat, Symlink, Touch}
 use Rattle.hm_model.specs.declared.reply.Reply.{Reply}
 use Rattle.hm_model.specs.declared.reply.Reply.TheVariants.{Content as Bytes, Done, Listing, MadePfs, NoSnapshots, PfsFull, Status, Target as Text}
 use Rattle.hm_model.specs.declared.reply.Reply.TheVariants.{TooManyIntervals, CrossPfs, Exists, HashFull, IntoItself, IsDir, NotEmpty, NotFile}
@@ -27,7 +31,8 @@ use Rattle.hm_model.proofs.DueLemmas.{of_option}
 use Rattle.hm_records.proofs.MemberLemmas.{has_tail}
 use Rattle.hm_calls.specs.Due.{due_over, lacking}
 use Rattle.hm_calls.specs.Answered.{IsAnswerable}
-use Rattle.hm_calls.proofs.GivenLemmas.{behind_cat, behind_file, behind_link, dir_in_walk, file_accepted, file_lacks, in_read, kept_in_read, lost_in_walk, too_large}
+use Rattle.hm_calls.proofs.GivenLemmas.{behind_cat, behind_file, behind_link, dir_in_walk, file_accepted, file_lacks, in_read, kept_in_read}
+use Rattle.hm_calls.proofs.GivenLemmas.{lost_in_walk, too_large}
 use Rattle.hm_step.proofs.PossibleLemmas.{OfAll, OfCheck, all_fine, first_of_all, none_fine, walks_fine}
 use Rattle.hm_step.proofs.ReplyLemmas.{Way, first_front, lacks, refused, serves, way}
 use Rattle.hm_step.proofs.EarlyLemmas.{early_plain}

@@ -35,7 +35,8 @@ use Rattle.hm_step.specs.Pruned.{IsEnough, StandAfter, StillKeeps}
 use Rattle.hm_step.proofs.JobLemmas.{enough_less, system_for}
 use Rattle.hm_step.proofs.KnownLemmas.{record_at}
 use Rattle.hm_step.proofs.NextLemmas.{role_is, shown_of_master, shown_of_slave, system_at}
-use Rattle.hm_step.proofs.RecordLemmas.{other_record, set_fit, set_follows, set_keys, set_names, set_of, set_payloads, set_record, set_unfed, set_up_to, set_view}
+use Rattle.hm_step.proofs.RecordLemmas.{other_record, set_fit, set_follows, set_keys, set_names, set_of, set_payloads, set_record, set_unfed}
+use Rattle.hm_step.proofs.RecordLemmas.{set_up_to, set_view}
 use Rattle.hm_step.proofs.SystemNumberLemmas.{numbers_kept}
 use Rattle.hm_step.proofs.SystemLemmas.{all_after, found_beside, found_here, on_each, own_after, still_there}
 

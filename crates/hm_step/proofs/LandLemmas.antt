@@ -6,7 +6,8 @@ use Rattle.std.specs.Option.{option_map_or}
 use Rattle.hm_model.specs.Answer.{is_master}
 use Rattle.hm_model.specs.Call.{Call, all_located, each_located, first_of, located, second_of, site_in}
 use Rattle.hm_model.specs.Change.{changed_pfs}
-use Rattle.hm_model.specs.Due.{Check, ReadsPaths, early_checks, first_refusal, hash_left, ids_left, intervals_left, is_in_slave, is_tree_call, own_checks, refusal, refuse_if, slaves_stay, walks}
+use Rattle.hm_model.specs.Due.{Check, ReadsPaths, early_checks, first_refusal, hash_left, ids_left, intervals_left, is_in_slave, is_tree_call}
+use Rattle.hm_model.specs.Due.{own_checks, refusal, refuse_if, slaves_stay, walks}
 use Rattle.hm_model.specs.Sites.{At, IsParsed, Located, MakesName, Nowhere, Parsed, Site, TakesName, Use, Walks, uses_of}
 use Rattle.hm_model.specs.Volume.{Master, PseudoFileSystem, Role, Slave, Volume, system_of}
 use Rattle.hm_model.specs.Walk.{Follows, Stays}

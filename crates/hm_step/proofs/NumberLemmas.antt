@@ -4,7 +4,8 @@ use Rattle.std.specs.Prelude.{◌⊎◌, ◌==◌, None, find, replicate, if◌t
 use Rattle.std.specs.Bool.{nat_lt}
 use Rattle.std.specs.List.{Contains}
 use Rattle.std.proofs.lemmas.Bool.Decides.{nat_tests}
-use Rattle.hm_types.specs.Tree.{FileTree, is_object_before, object_in, with_change, with_links, with_object, without_entry, without_link, without_name, without_object}
+use Rattle.hm_types.specs.Tree.{FileTree, is_object_before, object_in, with_change, with_links, with_object, without_entry, without_link}
+use Rattle.hm_types.specs.Tree.{without_name, without_object}
 use Rattle.hm_types.specs.declared.id.Obj.{Obj}
 use Rattle.hm_types.specs.declared.object.Object.{Object}
 use Rattle.hm_types.specs.declared.object.Content.{Content}

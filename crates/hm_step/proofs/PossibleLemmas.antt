@@ -13,7 +13,9 @@ use Rattle.hm_model.specs.Due.{Check, first_refusal, has_id, parts_in, walks}
 use Rattle.hm_model.specs.Sites.{At, BadAt, MakesName, Nowhere, Parsed, Parts, TakesName, Use, Walks, at_end, front_of, in_directory, last_name, standing_name}
 use Rattle.hm_model.specs.View.{AsOf, Now, Position, View, When, object_at}
 use Rattle.hm_model.specs.Volume.{PseudoFileSystem, Volume, system_of}
-use Rattle.hm_model.specs.Walk.{Follow, Follows, Passed, Reaches, Refuses, Stays, TakesPfs, Walked, and_then, by_id, by_name, enter, enter_root, find_name, find_object, follow_before, from_found, is_directory, is_kept, is_seen, linked_in, look_at_root, over_link, reach, root_of, start, step, walk, walk_on}
+use Rattle.hm_model.specs.Walk.{Follow, Follows, Passed, Reaches, Refuses, Stays, TakesPfs, Walked, and_then, by_id, by_name, enter, enter_root}
+use Rattle.hm_model.specs.Walk.{find_name, find_object, follow_before, from_found, is_directory, is_kept, is_seen, linked_in, look_at_root, over_link}
+use Rattle.hm_model.specs.Walk.{reach, root_of, start, step, walk, walk_on}
 use Rattle.hm_model.specs.declared.reply.Reply.{Reply}
 use Rattle.hm_model.specs.declared.reply.Reply.TheVariants.{NotDir, NotFound, NotRetained}
 use Rattle.hm_model.proofs.DueLemmas.{of_option, of_test}

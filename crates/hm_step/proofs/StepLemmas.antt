@@ -15,7 +15,8 @@ use Rattle.hm_model.specs.Legal.{Lands}
 use Rattle.hm_model.specs.Reply.{is_refusal, passed_ids}
 use Rattle.hm_model.specs.Volume.{Volume}
 use Rattle.hm_model.specs.declared.command.Command.{Command}
-use Rattle.hm_model.specs.declared.command.Command.TheVariants.{Cat, Fill, Ln, Ls, Mkdir, Mv, Readlink, Rm, Rmdir, Snapshot, Stat, Symlink, Touch, Truncate, Write}
+use Rattle.hm_model.specs.declared.command.Command.TheVariants.{Cat, Fill, Ln, Ls, Mkdir, Mv, Readlink, Rm, Rmdir, Snapshot, Stat, Symlink, Touch}
+use Rattle.hm_model.specs.declared.command.Command.TheVariants.{Truncate, Write}
 use Rattle.hm_volume.specs.Shown.{ShowsAs}
 use Rattle.hm_image.specs.StandFor.{StandFor}
 use Rattle.hm_calls.specs.Answered.{Does, IsAnswerable, IsFormOf, OpensTo, is_effect, is_prune, reply_in}

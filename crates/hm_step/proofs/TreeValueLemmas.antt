@@ -18,7 +18,8 @@ use Rattle.hm_records.specs.declared.entry.DirEntry.{DirEntry}
 use Rattle.hm_records.proofs.CountsLemmas.{settled}
 use Rattle.hm_records.proofs.MemberLemmas.{has_cases, has_head, has_none, has_tail}
 use Rattle.hm_records.proofs.NameLemmas.{stands_or_not}
-use Rattle.hm_records.proofs.PlainTreeLemmas.{earlier_test, entry_none, first_none, first_some, first_there, key_passed, key_taken, no_entry_at, triple_known, triple_lacks, triple_new, triple_none, triples_added, triples_passed, view_held}
+use Rattle.hm_records.proofs.PlainTreeLemmas.{earlier_test, entry_none, first_none, first_some, first_there, key_passed, key_taken, no_entry_at}
+use Rattle.hm_records.proofs.PlainTreeLemmas.{triple_known, triple_lacks, triple_new, triple_none, triples_added, triples_passed, view_held}
 use Rattle.hm_records.proofs.SubjectLemmas.{same_subject}
 use Rattle.hm_records.proofs.SearchLemmas.{Decided, counted_of, decided_by, less_or_not, walked}
 use Rattle.hm_step.proofs.ObjectValueLemmas.{objects_of}

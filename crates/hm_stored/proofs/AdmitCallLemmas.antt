@@ -13,7 +13,8 @@ use Rattle.hm_stored.specs.Calls.{AnswersRoom, IsNotRenewed, Refuses, Renews, Sa
 use Rattle.hm_stored.specs.Heap.{Heap, Rest, frame_of, free_of, heap_of, maps_of, room_of}
 use Rattle.hm_stored.specs.Held.{IsKept}
 use Rattle.hm_stored.specs.declared.books.Books.{Books}
-use Rattle.hm_stored.proofs.AdmitLemmas.{admits, extents_admit, extents_still, kept_admit, kept_still, pages_admit, pages_still, rest_still, room_admit, whole_admit}
+use Rattle.hm_stored.proofs.AdmitLemmas.{admits, extents_admit, extents_still, kept_admit, kept_still, pages_admit, pages_still, rest_still}
+use Rattle.hm_stored.proofs.AdmitLemmas.{room_admit, whole_admit}
 use Rattle.hm_stored.proofs.BasisLemmas.{SameBasis, frame_same}
 use Rattle.hm_stored.proofs.NewNodeLemmas.{room_whole}
 use Rattle.hm_stored.proofs.NodeCallLemmas.{basis, kept_broken, spends_half}

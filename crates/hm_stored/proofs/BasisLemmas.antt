@@ -63,7 +63,8 @@ module _ (h h' : Heap) (same : SameBasis h h') where
   pub fixed_told : begun_content h' ≡ begun_content h
       → fixed_of h' ≡ fixed_with h.bigblocks (is_some (begun_content h)) (refs_begun h) h'.disk
   fixed_told content = by_parts h'.bigblocks (begun_content h') (option_map (basis_with h') h'.pages.begin) same.bigblocks content bases_same where
-    by_parts : (n : ℕ) (es : Option (List FullElement)) (o : Option Basis) → n ≡ h.bigblocks → es ≡ begun_content h → o ≡ option_map (basis_with h) h.pages.begin
+    by_parts : (n : ℕ) (es : Option (List FullElement)) (o : Option Basis) → n ≡ h.bigblocks → es ≡ begun_content h
+        → o ≡ option_map (basis_with h) h.pages.begin
         → fixed_with n (is_some es) (refs_with o) h'.disk ≡ fixed_with h.bigblocks (is_some (begun_content h)) (refs_begun h) h'.disk
     by_parts n es o first second third = rw (first, second, third) refl
 

@@ -17,7 +17,8 @@ use Rattle.hm_key.specs.declared.element.Element.{Element}
 use Rattle.hm_btree.specs.Tree.{HoldsTree, told_elements, told_mark}
 use Rattle.hm_stored.specs.Basis.{nodes}
 use Rattle.hm_stored.specs.Calls.{AnswersRoom, ChangesExtents, Places, Stays}
-use Rattle.hm_stored.specs.Heap.{Heap, basis_with, bytes_of, begun_content, does_tell, extents_in, frame_of, free_of, is_firm_with, pages_of, places_in, room_of}
+use Rattle.hm_stored.specs.Heap.{Heap, basis_with, bytes_of, begun_content, does_tell, extents_in, frame_of, free_of, is_firm_with, pages_of}
+use Rattle.hm_stored.specs.Heap.{places_in, room_of}
 use Rattle.hm_stored.specs.Held.{IsKept}
 use Rattle.hm_stored.specs.Laws.{rests, told_together}
 use Rattle.hm_stored.specs.Log.{filled}

@@ -480,7 +480,8 @@ returns-in_err-check_end-clause-gives g c =
     c.parts-parts.ensures) c.in_ok-path.ensures.ok) (early_edit c.args.edit c.args.word.now c.course_before-course.result.last.0
     c.parts-parts.result.now c.in_ok-check_future.ensures c.in_ok-check_present.ensures) (λ reply. fits_file (end_of c.args.edit) ≡ Some reply)
     (edit_large c.args.edit c.args.word.now (Parts c.parts-parts.result.now ∷ [])) c.from_residual-in_err-check_end.result
-    c.in_err-check_end.field-0.0 (p.1 ∙ ap Err p.2) (decided (Unit {0}) (fits_file (end_of c.args.edit)) c.in_err-check_end.field-0.0 c.in_err-check_end.ensures.check)
+    c.in_err-check_end.field-0.0 (p.1 ∙ ap Err p.2) (decided (Unit {0}) (fits_file (end_of c.args.edit)) c.in_err-check_end.field-0.0
+    c.in_err-check_end.ensures.check)
 
 pub returns-in_err-admit_edit-clause-gives : goal.returns-in_err-admit_edit-clause-gives
 returns-in_err-admit_edit-clause-gives g c =

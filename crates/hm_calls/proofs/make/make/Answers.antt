@@ -15,7 +15,8 @@ use Rattle.hm_calls.specs.Writes.{IsNewIn, PutsObject, place_in, reserves}
 use Rattle.hm_calls.proofs.TakeLemmas.{both_stay, takes_charged, took_admitted}
 use Rattle.hm_calls.specs.New.{object_by, command_by}
 use Rattle.hm_calls.proofs.StageLemmas.{good_new, nameless_new, past_stopped}
-use Rattle.hm_calls.proofs.MayReplyLemmas.{asks_make, early_made, end_gives, front_none, future_gives, lost_gives, name_gives, one_gives, past_gives, space_gives, word_gives}
+use Rattle.hm_calls.proofs.MayReplyLemmas.{asks_make, early_made, end_gives, front_none, future_gives, lost_gives, name_gives, one_gives, past_gives}
+use Rattle.hm_calls.proofs.MayReplyLemmas.{space_gives, word_gives}
 use Rattle.hm_calls.proofs.SceneLemmas.{decided}
 use Rattle.std.proofs.lemmas.Bool.{false≢true}
 use Rattle.hm_calls.proofs.GivenLemmas.{made_has}

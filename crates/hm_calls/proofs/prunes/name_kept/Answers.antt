@@ -7,7 +7,8 @@ use Rattle.hm_model.specs.declared.reply.Reply.TheVariants.{NotDir}
 use Rattle.hm_cursor.specs.Told.{IsRecordNow, OnBalanced}
 use Rattle.hm_records.specs.declared.pfs_record.PfsRecord.{PfsRecord}
 use Rattle.hm_calls.specs.Systems.{MayRefuse}
-use Rattle.hm_calls.proofs.PruneLemmas.{may_be_many, may_be_no_directory, may_be_unnamed, may_stop, names_empty, names_gone, names_left, names_many, names_stopped, refusal_each}
+use Rattle.hm_calls.proofs.PruneLemmas.{may_be_many, may_be_no_directory, may_be_unnamed, may_stop, names_empty, names_gone, names_left, names_many}
+use Rattle.hm_calls.proofs.PruneLemmas.{names_stopped, refusal_each}
 use Rattle.hm_calls.proofs.prunes.name_kept.Goals as goal
 
 pub returns-in_err-check_directory-clause-told : goal.returns-in_err-check_directory-clause-told
@@ -56,7 +57,8 @@ returns-in_err-retention-clause-told g c hash word room free few =
     (λ lists. IsRecordNow lists c.args.directory.now.at.pfs.0 o)) c.in-Some.is c.in_ok-record.ensures.ok)
     c.in_ok-ids.ensures.ok c.in_ok-record.ensures.keeps.elements c.in_ok-record.ensures.keeps.extents
     c.from_residual-in_err-retention.result c.in_err-retention.field-0.0 (p.1 ∙ ap Err p.2)
-    (let told = c.is_empty.ensures in let is = c.if-is_empty.false in grind (arith, nat_tests, told, is)) (rw c.deref.ensures.value at c.in_err-retention.ensures.many)
+    (let told = c.is_empty.ensures in let is = c.if-is_empty.false in grind (arith, nat_tests, told, is))
+    (rw c.deref.ensures.value at c.in_err-retention.ensures.many)
 
 pub returns-in_err-retention-clause-gives : goal.returns-in_err-retention-clause-gives
 returns-in_err-retention-clause-gives g c word =
@@ -74,5 +76,6 @@ returns-clause-told g c hash word room free few =
     (subst (λ (o : Option PfsRecord). OnBalanced (g.T.HasElements.elements c.args.store.now) (g.T.HasRoom.extents c.args.store.now)
     (λ lists. IsRecordNow lists c.args.directory.now.at.pfs.0 o)) c.in-Some.is c.in_ok-record.ensures.ok)
     c.in_ok-ids.ensures.ok c.in_ok-record.ensures.keeps.elements c.in_ok-record.ensures.keeps.extents
-    c.in_ok-retention.retention (let told = c.is_empty.ensures in let is = c.if-is_empty.false in grind (arith, nat_tests, told, is)) (rw c.deref.ensures.value at c.in_ok-retention.ensures.ok)
+    c.in_ok-retention.retention (let told = c.is_empty.ensures in let is = c.if-is_empty.false in grind (arith, nat_tests, told, is))
+    (rw c.deref.ensures.value at c.in_ok-retention.ensures.ok)
     c.in_ok-retention.ensures.retention (rw c.deref.ensures.value at c.in_ok-retention.ensures.last)

@@ -142,7 +142,8 @@ returns-clause-ok g c =
     let Four : Change = PutsName new (record { key = there.key; hidden = false }) i c.args.moved.obj c.args.moved.kind in
     on_ok_weaker c.put_name.result
     (λ put. writes_so g.T.HasElements.elements g.T.HasRoom.extents (Then (Then (Then One Two) Three) Four)
-    (ReplacesName hash old new there.key i c.args.moved.obj c.args.moved.kind there.obj there.links) (λ lists. AreBelow new.pfs i (fulls lists)) c.args.store.now
+    (ReplacesName hash old new there.key i c.args.moved.obj c.args.moved.kind there.obj there.links) (λ lists. AreBelow new.pfs i (fulls lists))
+    c.args.store.now
     c.put_name.new.store c.requires.below
     (λ was es' below steps.
     let (three, (two, (one, first, second), third), last) = steps in

@@ -7,7 +7,8 @@ use Rattle.hm_model.specs.Sites.{Parts}
 use Rattle.hm_model.specs.declared.reply.Reply.TheVariants.{Future, ReadOnly}
 use Rattle.hm_dirs.specs.Walk.{mode_of}
 use Rattle.hm_calls.proofs.KnownLemmas.{on_ok_always}
-use Rattle.hm_calls.proofs.SystemLemmas.{system_check_refuses, system_comes, system_early, system_future, system_future_gives, system_lost, system_lost_gives, system_lost_refuses}
+use Rattle.hm_calls.proofs.SystemLemmas.{system_check_refuses, system_comes, system_early, system_future, system_future_gives, system_lost}
+use Rattle.hm_calls.proofs.SystemLemmas.{system_lost_gives, system_lost_refuses}
 use Rattle.hm_calls.proofs.SystemLemmas.{system_past, system_past_gives, system_word, system_word_gives, system_word_refuses}
 use Rattle.hm_calls.specs.Systems.{PassesEarly}
 use Rattle.hm_calls.proofs.systems.reach_system.Goals as goal

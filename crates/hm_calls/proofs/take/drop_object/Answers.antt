@@ -43,7 +43,8 @@ returns-clause-ok g c =
     let (middle, first, second) = steps in
     object_dropped pfs i obj (fulls was) middle es' first.0 first.1 second)
     (writes_both elements extents One Two old mid new
-    (writes_ok elements extents {T = Unit {0}} {E = Unit {0}} Goes Leaves old mid (Ok tt) c.in_ok-remove_object.ensures.ok c.in_ok-remove_object.ensures.gone) wrote))
+    (writes_ok elements extents {T = Unit {0}} {E = Unit {0}} Goes Leaves old mid (Ok tt) c.in_ok-remove_object.ensures.ok
+    c.in_ok-remove_object.ensures.gone) wrote))
     c.remove_bytes.ensures.ok
 
 pub returns-clause-cause : goal.returns-clause-cause

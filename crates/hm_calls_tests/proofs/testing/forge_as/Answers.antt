@@ -16,5 +16,6 @@ returns c =
     (extents_of c.place.new.self.extents.list.items) (extents_of c.insert.new.self.extents.list.items) c.args.bytes.now
     c.args.volume.now.next _
     placed.extents.elements placed.extents.extents done.elements done.extents (grind arith) (omega arith) c.place.new.self.extents.live
-    (omega (arith, c.above.ensures.0, c.above-volume.ensures.0)) (omega (arith, c.above.ensures.1, c.above-volume.ensures.0)) (omega (arith, c.above-volume.ensures.1))
+    (omega (arith, c.above.ensures.0, c.above-volume.ensures.0)) (omega (arith, c.above.ensures.1, c.above-volume.ensures.0))
+    (omega (arith, c.above-volume.ensures.1))
     c.requires

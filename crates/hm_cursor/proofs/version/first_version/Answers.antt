@@ -9,7 +9,8 @@ use Rattle.hm_cursor.specs.Version.{IsVersion}
 use Rattle.hm_cursor.proofs.SpanLemmas.{span_start, number_from, span_over, span_empty, span_outside, span_oldest, span_passed, span_first}
 use Rattle.hm_cursor.proofs.StoreLemmas.{told, told_both, told_three, told_still, told_first, same_both}
 use Rattle.hm_cursor.proofs.version.first_version.Goals as goal
-use Rattle.hm_cursor.proofs.version.first_version.Goals.{then-not-is_of_one_kind-via-then-not-is_of_one_kind, then-not-is_of_one_kind-via-else-not-is_of_one_kind+then-oldest-last}
+use Rattle.hm_cursor.proofs.version.first_version.Goals.{then-not-is_of_one_kind-via-then-not-is_of_one_kind}
+use Rattle.hm_cursor.proofs.version.first_version.Goals.{then-not-is_of_one_kind-via-else-not-is_of_one_kind+then-oldest-last}
 
 pub returns-in_default-clause-ok : goal.returns-in_default-clause-ok
 returns-in_default-clause-ok g c =

@@ -18,7 +18,8 @@ loop-k-preserved g c =
       next = omega (arith, invariant.next, more, bits);
       few = omega (arith, invariant.few, bits, bit_one (lacks_at lack k));
       below = c.in_ok-renew_one.ensures.below invariant.below;
-      told = rw bits (told_step lack c.args.fresh.now k next c.args.append.now c.loop-k.append c.renew_one.new.append (lacks_at lack k) (slice_index c.args.fresh.now next)
+      told = rw bits (told_step lack c.args.fresh.now k next c.args.append.now c.loop-k.append c.renew_one.new.append (lacks_at lack k)
+          (slice_index c.args.fresh.now next)
           (g.P.Pages.pages c.args.pages.now) (g.P.Pages.pages c.loop-k.pages) (g.P.Pages.pages c.renew_one.new.pages)
           (omega arith) c.told-lacking invariant.next refl refl small invariant.told c.in_ok-renew_one.ensures.ok);
       committed = same.0 ∙ invariant.committed;

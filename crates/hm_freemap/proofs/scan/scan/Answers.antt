@@ -46,7 +46,8 @@ loop-from-preserved g c =
     let inside : to ≤ c.args.bigblocks = omega (arith, c.min-to.ensures) in
     let onward : from ≤ to = omega (arith, c.min-to.ensures, c.loop-from-test.true) in
     let read : WhereTold committed frozen current (λ maps. AreRead maps from c.read.new.self) =
-    where_at committed frozen current (g.P.States.committed c.loop-from.pages) (g.P.States.frozen c.loop-from.pages) (g.P.Pages.pages c.loop-from.pages) (λ maps. AreRead maps from c.read.new.self)
+    where_at committed frozen current (g.P.States.committed c.loop-from.pages) (g.P.States.frozen c.loop-from.pages)
+    (g.P.Pages.pages c.loop-from.pages) (λ maps. AreRead maps from c.read.new.self)
     invariant.committed invariant.frozen invariant.pages (rw (← c.from.ensures) c.in_ok-read.ensures.ok) in
     record {
       low = omega (arith, invariant.low, onward);
@@ -78,10 +79,12 @@ returns-in-Err-clause-cause g c =
     let current = g.P.Pages.pages c.args.pages.now in
     let invariant = c.loop-from.invariant in
     let read : WhereTold committed frozen current (λ maps. AreRead maps from c.read.new.self) =
-    where_at committed frozen current (g.P.States.committed c.loop-from.pages) (g.P.States.frozen c.loop-from.pages) (g.P.Pages.pages c.loop-from.pages) (λ maps. AreRead maps from c.read.new.self)
+    where_at committed frozen current (g.P.States.committed c.loop-from.pages) (g.P.States.frozen c.loop-from.pages)
+    (g.P.Pages.pages c.loop-from.pages) (λ maps. AreRead maps from c.read.new.self)
     invariant.committed invariant.frozen invariant.pages (rw (← c.from.ensures) c.in_ok-read.ensures.ok) in
     let err = c.in-Err.ensures.err in
-    bad_block c.args.bigblocks c.args.append.now committed frozen current from to c.in-Err.block (g.P.Counted.faults c.args.pages.now) (g.P.Counted.faults c.read.new.pages) c.read.new.self c.bad_entry.result
+    bad_block c.args.bigblocks c.args.append.now committed frozen current from to c.in-Err.block (g.P.Counted.faults c.args.pages.now)
+    (g.P.Counted.faults c.read.new.pages) c.read.new.self c.bad_entry.result
     (rw (← c.from-in-Err.ensures) c.bad_entry.ensures) (omega (arith, invariant.faults, c.in_ok-read.ensures.counted.never_falls)) read invariant.low
     (omega (arith, c.min-to.ensures)) (omega (arith, c.min-to.ensures)) err.0 err.1 err.2
 
@@ -98,7 +101,8 @@ returns-clause-ok g c =
       | then-loop-from-test+else-found-limit w ↦ where_map committed frozen current
           (λ maps. Finds (is_free_by append maps) c.args.limit (range_with_len first (from - first)) c.loop-from.found)
           (λ maps. Finds (is_free_by append maps) c.args.limit (pool c.args.bigblocks) c.loop-from.found)
-          (λ maps finds. finds_rest (is_free_by append maps) c.args.limit first from c.args.bigblocks c.loop-from.found invariant.low invariant.high (omega arith) finds)
+          (λ maps finds. finds_rest (is_free_by append maps) c.args.limit first from c.args.bigblocks c.loop-from.found invariant.low invariant.high
+          (omega arith) finds)
           invariant.found
       | else-loop-from-test w ↦
           let end : from ≡ c.args.bigblocks = omega arith in

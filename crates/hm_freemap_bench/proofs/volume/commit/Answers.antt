@@ -15,7 +15,8 @@ pub returns : goal.returns
 returns c = record {
   there = λ block low.
       let at = page_of block in
-      let committed : (contents c.commit.new.self).committed ≡ (contents c.args.pages.now).current = c.commit.ensures.committed ∙ c.in_ok-freeze.ensures.ok.frozen in
+      let committed : (contents c.commit.new.self).committed ≡ (contents c.args.pages.now).current =
+      c.commit.ensures.committed ∙ c.in_ok-freeze.ensures.ok.frozen in
       both (in_freemap at) (is_some ((contents c.commit.new.self).committed at))
       (eq-eqb (zone_of at) FREEMAP_ZONE (page_zone block (omega arith)))
       (ap (λ (map : PageMap). is_some (map at)) committed ∙ c.requires.there block low);

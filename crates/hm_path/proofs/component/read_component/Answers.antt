@@ -11,4 +11,5 @@ returns-then-not-is_name c =
       | else-is_empty-via-then-is_empty+else-is_some w ↦ λ none. none_from_test _ w.if-is_some.ensures
       | else-is_empty-via-else-is_empty w ↦ λ none. absurd (some_from_test _ w.if-is_empty.ensures none)
     ] in
-    no_component c.args.text.now c.cut_id-as_of.result.0.now c.cut_id-as_of.result.1 c.cut_id-as_of.ensures (λ named. false≢true (c.if-not-is_name.ensures.1 named)) bare
+    no_component c.args.text.now c.cut_id-as_of.result.0.now c.cut_id-as_of.result.1 c.cut_id-as_of.ensures
+    (λ named. false≢true (c.if-not-is_name.ensures.1 named)) bare

@@ -17,7 +17,8 @@ pub returns-in_err-to_digit : goal.returns-in_err-to_digit
 returns-in_err-to_digit c =
     let written = strip_prefix_is Decides-eqb c.args.text.now id_sign (Some c.in_ok-digits.digits) c.in_ok-digits.ensures.cases in
     let P : ℕ → Type 0 = λ x. digit_value x < 16 in
-    let none = no_id-digit c.args.text.now c.in_ok-digits.digits.now c.loop-digit.digit-index written c.loop-digit-test.true (λ is. c.in_err-to_digit.ensures.value (subst P (sym c.from.ensures) is)) in
+    let none = no_id-digit c.args.text.now c.in_ok-digits.digits.now c.loop-digit.digit-index written c.loop-digit-test.true
+    (λ is. c.in_err-to_digit.ensures.value (subst P (sym c.from.ensures) is)) in
     rw c.from_residual-in_err-to_digit.ensures none
 
 pub overflow_add-number : goal.overflow_add-number
@@ -30,8 +31,10 @@ overflow_add-number c =
 pub loop-digit-preserved : goal.loop-digit-preserved
 loop-digit-preserved c =
     let P : ℕ → Type 0 = λ x. digit_value x < 16 in
-    let same : c.from-in-loop-digit.result ≡ digit_value (get_or c.in_ok-digits.digits.now c.loop-digit.digit-index 0) = c.from-in-loop-digit.ensures ∙ (c.in_ok-to_digit.ensures.value.1 ∙ ap digit_value c.from.ensures) in
+    let same : c.from-in-loop-digit.result ≡ digit_value (get_or c.in_ok-digits.digits.now c.loop-digit.digit-index 0) =
+    c.from-in-loop-digit.ensures ∙ (c.in_ok-to_digit.ensures.value.1 ∙ ap digit_value c.from.ensures) in
     record {
-      each = digits_more 16 c.in_ok-digits.digits.now c.loop-digit.digit-index c.loop-digit-test.true c.loop-digit.invariant.each (subst P c.from.ensures c.in_ok-to_digit.ensures.value.0);
+      each = digits_more 16 c.in_ok-digits.digits.now c.loop-digit.digit-index c.loop-digit-test.true c.loop-digit.invariant.each
+          (subst P c.from.ensures c.in_ok-to_digit.ensures.value.0);
       value = rw (digits_value_more 16 c.in_ok-digits.digits.now c.loop-digit.digit-index c.loop-digit-test.true, ← c.loop-digit.invariant.value, same) refl;
     }

@@ -1,5 +1,6 @@
 use Rattle.hm_recover.proofs.DamageLemmas.{broken-holds-none, other-holds-none}
-use Rattle.hm_recover.proofs.entry.page_of.Goals.{else-generation-header-via-then-generation-header+else-is_page_of, else-generation-header-via-else-generation-header}
+use Rattle.hm_recover.proofs.entry.page_of.Goals.{else-generation-header-via-then-generation-header+else-is_page_of}
+use Rattle.hm_recover.proofs.entry.page_of.Goals.{else-generation-header-via-else-generation-header}
 use Rattle.hm_recover.proofs.entry.page_of.Goals as goal
 
 pub returns-in_err-at-clause-none : goal.returns-in_err-at-clause-none

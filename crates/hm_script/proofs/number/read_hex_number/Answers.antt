@@ -12,7 +12,8 @@ overflow_mul-number c =
 pub returns-in_err-to_digit : goal.returns-in_err-to_digit
 returns-in_err-to_digit c =
     let P : ℕ → Type 0 = λ x. digit_value x < 16 in
-    rw c.from_residual.ensures (no_hex-digit c.args.size c.args.word.now c.loop-digit.digit-index c.loop-digit-test.true (λ is. c.in_err-to_digit.ensures.value (subst P (sym c.from.ensures) is)))
+    rw c.from_residual.ensures (no_hex-digit c.args.size c.args.word.now c.loop-digit.digit-index c.loop-digit-test.true
+    (λ is. c.in_err-to_digit.ensures.value (subst P (sym c.from.ensures) is)))
 
 pub overflow_add-number : goal.overflow_add-number
 overflow_add-number c =
@@ -23,8 +24,10 @@ overflow_add-number c =
 pub loop-digit-preserved : goal.loop-digit-preserved
 loop-digit-preserved c =
     let P : ℕ → Type 0 = λ x. digit_value x < 16 in
-    let same : c.from-in-loop-digit.result ≡ digit_value (get_or c.args.word.now c.loop-digit.digit-index 0) = c.from-in-loop-digit.ensures ∙ (c.in_ok-to_digit.ensures.value.1 ∙ ap digit_value c.from.ensures) in
+    let same : c.from-in-loop-digit.result ≡ digit_value (get_or c.args.word.now c.loop-digit.digit-index 0) =
+    c.from-in-loop-digit.ensures ∙ (c.in_ok-to_digit.ensures.value.1 ∙ ap digit_value c.from.ensures) in
     record {
-      each = digits_more 16 c.args.word.now c.loop-digit.digit-index c.loop-digit-test.true c.loop-digit.invariant.each (subst P c.from.ensures c.in_ok-to_digit.ensures.value.0);
+      each = digits_more 16 c.args.word.now c.loop-digit.digit-index c.loop-digit-test.true c.loop-digit.invariant.each
+          (subst P c.from.ensures c.in_ok-to_digit.ensures.value.0);
       value = rw (digits_value_more 16 c.args.word.now c.loop-digit.digit-index c.loop-digit-test.true, ← c.loop-digit.invariant.value, same) refl;
     }

@@ -11,7 +11,8 @@ pub returns-in_default-2 : goal.returns-in_default-2
 returns-in_default-2 c =
     let are : AreWords c.args.text.now (texts c.list.result.now) = rw c.list.ensures c.in-Some.ensures in
     let none = found_none (texts c.cut_lane-lane.result.1.now) c.in_ok-command.field-0 c.in_default-2.is c.in_ok-command.ensures in
-    bad_text c.args.text.now c.requires (no_command c.args.text.now (texts c.list.result.now) (texts c.cut_lane-lane.result.1.now) c.cut_lane-lane.result.0 are c.cut_lane-lane.ensures none)
+    bad_text c.args.text.now c.requires (no_command c.args.text.now (texts c.list.result.now) (texts c.cut_lane-lane.result.1.now)
+    c.cut_lane-lane.result.0 are c.cut_lane-lane.ensures none)
 
 pub returns : goal.returns
 returns c =
@@ -19,5 +20,6 @@ returns c =
     let one = found_one (texts c.cut_lane-lane.result.1.now) c.in_ok-command.field-0 c.in-Some-2.command c.in-Some-2.is c.in_ok-command.ensures in
     record {
       number_is = refl;
-      gives = one_command c.args.text.now (texts c.list.result.now) (texts c.cut_lane-lane.result.1.now) c.cut_lane-lane.result.0 c.in-Some-2.command are c.cut_lane-lane.ensures one;
+      gives = one_command c.args.text.now (texts c.list.result.now) (texts c.cut_lane-lane.result.1.now) c.cut_lane-lane.result.0 c.in-Some-2.command
+          are c.cut_lane-lane.ensures one;
     }

@@ -6,7 +6,8 @@ use Rattle.hm_script.proofs.reading.read_lines.Goals as goal
 
 pub returns-in_err-add_text-clause-err : goal.returns-in_err-add_text-clause-err
 returns-in_err-add_text-clause-err c =
-    let fault = line_fault _ _ _ c.split_line.result.1.now _ _ c.lines.invariant c.split_line.ensures.texts c.in_err-add_text.field-0.0 c.in_err-add_text.ensures.err in
+    let fault = line_fault _ _ _ c.split_line.result.1.now _ _ c.lines.invariant c.split_line.ensures.texts c.in_err-add_text.field-0.0
+    c.in_err-add_text.ensures.err in
     same_fault (IsLineFault c.args.bytes.now) c.from_residual.result c.in_err-add_text.field-0.0 c.from_residual.ensures.1 fault
 
 pub lines-preserved : goal.lines-preserved

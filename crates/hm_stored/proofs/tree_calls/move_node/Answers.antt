@@ -44,6 +44,7 @@ returns-clause-moves g c =
     let begun = c.over-tree.result in
     let tree = c.move_node-answer.new.self in
     let back = c.into_parts-space.result in
-    moved_back c.args.at (heap c.args.space.now) (heap begun.space.now) (heap tree.space.now) (heap back.0.now) (heap c.end_change.new.self) (heap c.space-1.given.0) c.is_ok.result
+    moved_back c.args.at (heap c.args.space.now) (heap begun.space.now) (heap tree.space.now) (heap back.0.now) (heap c.end_change.new.self)
+    (heap c.space-1.given.0) c.is_ok.result
     c.move_node-answer.result (ap (λ m. heap m.now) c.over-tree.ensures.space) (ap (λ m. heap m.now) c.into_parts-space.ensures.space) (search rules)
     c.is_ok.ensures.value c.end_change.ensures.ends (if_ok (λ to is. is.pages) c.move_node-answer.result c.move_node-answer.ensures.ok)

@@ -50,7 +50,8 @@ returns-in-Ok-load-clause-root g c =
 
 pub returns-in-Ok-load-clause-closed : goal.returns-in-Ok-load-clause-closed
 unfolding heap_of
-returns-in-Ok-load-clause-closed g c = subst IsClosed (sym c.over.ensures.heap) (record { begin = c.in-Ok-load.ensures.loaded.plain.begin; whole = c.of.ensures.closed.1 })
+returns-in-Ok-load-clause-closed g c = subst IsClosed (sym c.over.ensures.heap)
+    (record { begin = c.in-Ok-load.ensures.loaded.plain.begin; whole = c.of.ensures.closed.1 })
 
 pub returns-in-Ok-load-clause-idle : goal.returns-in-Ok-load-clause-idle
 unfolding heap_of

@@ -11,7 +11,8 @@ loop-ids-init g c =
     let xs = g.T.HasRoom.extents c.args.store.now in
     let content = g.met.T.ElementStore.sorted c.args.store.now in
     record {
-      named = subst (λ (items : List Id). Named es xs c.args.pfs.0 c.args.as_of.0 c.args.directory c.args.shown.0 content (2 ^ 63) (map (λ (id : Id). id.0) items))
+      named = subst (λ (items : List Id). Named es xs c.args.pfs.0 c.args.as_of.0 c.args.directory c.args.shown.0 content (2 ^ 63)
+          (map (λ (id : Id). id.0) items))
           (sym c.new-ids.ensures.items) (named_none es xs c.args.pfs.0 c.args.as_of.0 c.args.directory c.args.shown.0 content);
       keeps = record { elements = refl; mark = refl; extents = refl; room = refl; free = refl };
       name = refl;

@@ -96,7 +96,8 @@ loop-from-smaller g c =
     let found : IfSome (Some e) (IsFound (key_of at)) =
     subst (λ (o : Option Element). IfSome o (IsFound (key_of at))) c.in-Some-2.is c.in_ok-element.ensures.found in
     subst (λ (o : Option Base). keys_left c.key_after-from.result < keys_left o) (sym c.in-Some.is)
-    (fewer_keys at e.base c.key_after-from.result wide (next_wide (key_of e.base) c.key_after-from.result c.key_after-from.ensures) found.place (after_is e.base c.key_after-from.result c.key_after-from.ensures))
+    (fewer_keys at e.base c.key_after-from.result wide (next_wide (key_of e.base) c.key_after-from.result c.key_after-from.ensures) found.place
+    (after_is e.base c.key_after-from.result c.key_after-from.ensures))
 
 pub loop-from-preserved : goal.loop-from-preserved
 loop-from-preserved g c =

@@ -3,7 +3,8 @@ use Rattle.std.proofs.lemmas.List.{length-take}
 use Rattle.hm_disk.specs.Crash.{Told}
 use Rattle.hm_disk_forms.specs.MemDisk.{DiskState, with_calls, with_change}
 use Rattle.hm_disk_forms.specs.declared.change.Change.TheVariants.{Write}
-use Rattle.hm_disk_forms.proofs.MemLemmas.{either, told-same, Written-write, Torn-write, moment-written, past-same, past-written, CallElapses-write, Unchanged-same, CallElapses-same}
+use Rattle.hm_disk_forms.proofs.MemLemmas.{either, told-same, Written-write, Torn-write, moment-written, past-same, past-written, CallElapses-write}
+use Rattle.hm_disk_forms.proofs.MemLemmas.{Unchanged-same, CallElapses-same}
 use Rattle.hm_disk_forms.proofs.mem_disk.MemDiskDisk.write_at.Goals as goal
 
 pub returns-in-Ok-clause-ok : goal.returns-in-Ok-clause-ok

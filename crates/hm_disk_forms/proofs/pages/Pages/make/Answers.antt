@@ -11,5 +11,6 @@ returns-in_ok-insert-clause-same c = λ byte.
     let h = c.in_ok-insert.ensures.updates in
     let absent : tree.get nat_cmp c.args.self.now.pages c.args.number ≡ None = grind (arith, common_steps) in
     ⊎_elim
-    (λ e. byte_in-zeros _ _ c.in_ok-page.page (byte % 4096) (ap (tree.get nat_cmp c.args.self.now.pages) (sym e) ∙ absent) (ap (tree.get nat_cmp c.insert.new.self) (sym e) ∙ h.1) c.in_ok-page.ensures (omega arith))
+    (λ e. byte_in-zeros _ _ c.in_ok-page.page (byte % 4096) (ap (tree.get nat_cmp c.args.self.now.pages) (sym e) ∙ absent)
+    (ap (tree.get nat_cmp c.insert.new.self) (sym e) ∙ h.1) c.in_ok-page.ensures (omega arith))
     (λ ne. grind (arith, common_steps, h.0 (byte / 4096), h.2 (byte / 4096))) (cases_eq c.args.number (byte / 4096))

@@ -25,7 +25,8 @@ returns-clause-ok c =
     let count = live_before (group_of s').was_live len in
     let is : c.begun-self-inside.result ≡ begun_flush now len count f =
     c.begun-self-inside.ensures ∙ (ap (λ (n : ℕ). begun_flush now n c.count_live-live.result c.self.inside.flush) c.frozen_len.ensures
-    ∙ (ap (λ (n : ℕ). begun_flush now len n c.self.inside.flush) c.count_live-live.ensures.value ∙ ap (λ (x : Flush). begun_flush now len count x) c.self.view_is)) in
+    ∙ (ap (λ (n : ℕ). begun_flush now len n c.self.inside.flush) c.count_live-live.ensures.value
+    ∙ ap (λ (x : Flush). begun_flush now len count x) c.self.view_is)) in
     moves-begun f c.begun-self-inside.result now (contents c.args.pages.now) s' c.requires.idle c.requires.ready c.in_ok-freeze.ensures.ok
     (subst (λ (n : ℕ). n ≤ len) c.count_live-live.ensures.value c.count_live-live.ensures.few) is
 

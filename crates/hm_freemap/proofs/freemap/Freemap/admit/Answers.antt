@@ -10,7 +10,8 @@ use Rattle.hm_freemap.proofs.freemap.Freemap.admit.Goals as goal
 pub returns-then-needed-eq0-clause-ok : goal.returns-then-needed-eq0-clause-ok
 returns-then-needed-eq0-clause-ok g c =
     let self = c.args.self.now in
-    told_none self.bigblocks c.args.zones c.args.held self.append (g.P.States.committed self.pages) (g.P.States.frozen self.pages) (g.P.Pages.pages self.pages) (g.P.Pages.pages c.lacking.new.pages) c.in_ok-lacking.lacking
+    told_none self.bigblocks c.args.zones c.args.held self.append (g.P.States.committed self.pages) (g.P.States.frozen self.pages)
+    (g.P.Pages.pages self.pages) (g.P.Pages.pages c.lacking.new.pages) c.in_ok-lacking.lacking
     c.in_ok-lacking.ensures.same.0 c.in_ok-lacking.ensures.ok (omega (arith, c.count-needed.ensures.value))
 
 pub renew-requires-clause-fresh : goal.renew-requires-clause-fresh
@@ -32,6 +33,7 @@ returns-clause-ok g c =
     let finds : WhereTold committed frozen current (λ maps. Finds (is_free_by self.append maps) wanted (pool self.bigblocks) found) =
     where_at committed frozen current (g.P.States.committed c.lacking.new.pages) (g.P.States.frozen c.lacking.new.pages) (g.P.Pages.pages c.lacking.new.pages)
     (λ maps. Finds (is_free_by self.append maps) wanted (pool self.bigblocks) found) first.1 first.2 first.0 c.in_ok-found.ensures.ok in
-    told_some self.bigblocks c.args.zones c.args.held self.append c.renew.new.append committed frozen current (g.P.Pages.pages c.renew.new.pages) lack wanted found
+    told_some self.bigblocks c.args.zones c.args.held self.append c.renew.new.append committed frozen current (g.P.Pages.pages c.renew.new.pages) lack
+    wanted found
     self.most c.in_ok-lacking.ensures.ok sized (omega (arith, c.count-needed.ensures.value, c.count-needed.ensures.few)) (omega arith) finds
     (rw (← first.0, ← second.0) c.in_ok-renew.ensures.ok)

@@ -18,7 +18,8 @@ returns-in_err-entry-clause-cause g c =
     let self = c.args.self.now in
     let is : c.from_residual.result ≡ Err c.in_err-entry.field-0.0 = search rules in
     let one : c.from-block.result ≡ append_of self.append c.args.zone = c.from-block.ensures ∙ ap (slice_index self.append) c.from.ensures in
-    cause_on {T = Entry} self.bigblocks self.append c.from-block.result (append_of self.append c.args.zone) (g.P.States.committed self.pages) (g.P.States.frozen self.pages) (g.P.Pages.pages self.pages)
+    cause_on {T = Entry} self.bigblocks self.append c.from-block.result (append_of self.append c.args.zone) (g.P.States.committed self.pages)
+    (g.P.States.frozen self.pages) (g.P.Pages.pages self.pages)
     (g.P.Counted.faults self.pages) (g.P.Counted.faults c.read_entry.new.pages) c.in_err-entry.field-0.0 c.from_residual.result
     one is (c.in_err-entry.ensures.cause self.append)
 
@@ -27,7 +28,8 @@ returns-in_default-clause-cause g c =
     let self = c.args.self.now in
     let size : c.rounded.result ≡ rounded c.args.len = c.rounded.ensures ∙ ap rounded c.from-2.ensures in
     let one : c.from-block.result ≡ append_of self.append c.args.zone = c.from-block.ensures ∙ ap (slice_index self.append) c.from.ensures in
-    bad_append self.bigblocks self.append c.args.zone c.args.len c.from-block.result c.read_entry.new.page (g.P.States.committed self.pages) (g.P.States.frozen self.pages) (g.P.Pages.pages self.pages)
+    bad_append self.bigblocks self.append c.args.zone c.args.len c.from-block.result c.read_entry.new.page (g.P.States.committed self.pages)
+    (g.P.States.frozen self.pages) (g.P.Pages.pages self.pages)
     (g.P.Counted.faults self.pages) (g.P.Counted.faults c.read_entry.new.pages) c.bad_entry.result
     c.requires.some c.requires.room one c.in_ok-entry.ensures.read
     (λ has. true≢false (sym (c.in_default.ensures.some.1 (rw (size, c.in_ok-entry.ensures.ok.0) has)))) c.bad_entry.ensures
@@ -42,7 +44,8 @@ returns-in_err-put_entry-clause-cause g c =
     cause_on {T = Unit {0}} self.bigblocks self.append block block (g.P.States.committed self.pages) (g.P.States.frozen self.pages) (g.P.Pages.pages self.pages)
     (g.P.Counted.faults self.pages) (g.P.Counted.faults c.put_entry.new.pages) fault c.from_residual-in_err-put_entry.result refl is
     (cause_later self.bigblocks self.append (λ one. one ≡ block) (g.P.States.committed self.pages) (g.P.States.frozen self.pages) (g.P.Pages.pages self.pages)
-    (g.P.Pages.pages c.read_entry.new.pages) (g.P.Counted.faults self.pages) (g.P.Counted.faults c.read_entry.new.pages) (g.P.Counted.faults c.put_entry.new.pages) (Err fault)
+    (g.P.Pages.pages c.read_entry.new.pages) (g.P.Counted.faults self.pages) (g.P.Counted.faults c.read_entry.new.pages)
+    (g.P.Counted.faults c.put_entry.new.pages) (Err fault)
     (c.in_ok-entry.ensures.cause self.append).counted.never_falls c.in_ok-entry.ensures.same.0 c.in_err-put_entry.ensures.cause)
 
 pub returns-clause-ok : goal.returns-clause-ok
@@ -83,5 +86,6 @@ returns-clause-cause g c =
     let self = c.args.self.now in
     let grows = (c.in_ok-entry.ensures.cause self.append).counted.never_falls in
     let further = c.in_ok-put_entry.ensures.cause.counted.never_falls in
-    cause_ok self.bigblocks self.append (λ one. one ≡ append_of self.append c.args.zone) (g.P.States.committed self.pages) (g.P.States.frozen self.pages) (g.P.Pages.pages self.pages)
+    cause_ok self.bigblocks self.append (λ one. one ≡ append_of self.append c.args.zone) (g.P.States.committed self.pages)
+    (g.P.States.frozen self.pages) (g.P.Pages.pages self.pages)
     (g.P.Counted.faults self.pages) (g.P.Counted.faults c.put_entry.new.pages) c.offset_of.result (omega (arith, grows, further))

@@ -134,4 +134,5 @@ unfolding heap_of
 returns-clause-ready g c =
     let s = c.args.self.now in
     flushed_by c.args.now.now c.args.flusher.now c.stage.new.self (heap_of (contents s.pages.store) (g.D.Disk.told s.disk) s.books)
-    (contents c.stage.new.pages) (g.D.Disk.told c.stage.new.disk) c.moved-self.result c.stage.result c.stage.ensures.ends c.requires.ready c.stage.ensures.stands
+    (contents c.stage.new.pages) (g.D.Disk.told c.stage.new.disk) c.moved-self.result c.stage.result c.stage.ensures.ends c.requires.ready
+    c.stage.ensures.stands
