@@ -1,5 +1,5 @@
 // What is done with a volume between the stages of its flushes, step by step, and what crashes within them leave.
-use crate::crashes::{Mounts, Volumes, mount_between};
+use crate::crashes::{Mounts, Part, Volumes, mount_between};
 use crate::run::Run;
 use crate::shown::Shown;
 use crate::volume::mounted;
@@ -84,8 +84,8 @@ pub fn shown_of(rt: &impl Abort, alloc: Global, run: Run) -> Result<Shown, NoMem
     Shown::of(rt, alloc, &mut core)
 }
 
-// Mounts what crashes may leave within a flush that a run has ended: from where one run of the same steps has come to
-// up to where another one has.
+// Mounts what crashes may leave within a flush that a run has ended: in a part of it from where one run of the same steps
+// has come to up to where another one has.
 pub fn mount_runs(
     rt: &impl Abort,
     alloc: Global,
@@ -93,9 +93,10 @@ pub fn mount_runs(
     ended: Run,
     first: Run,
     last: Run,
+    part: Part,
 ) -> Result<Mounts, NoMemory> {
     assert_eq!(rt; ended.boundary(), volumes.frozen.last);
     let disk = ended.stopped(rt);
     let changes = (first.stopped(rt).changes(), last.stopped(rt).changes());
-    mount_between(rt, alloc, volumes, &disk, changes, disk.changes())
+    mount_between(rt, alloc, volumes, &disk, changes, part, disk.changes())
 }

@@ -1,7 +1,7 @@
 // Crashes within a flush, between whose stages calls go on, and within the recoveries that follow: each image is
 // mounted, and compared with a volume that ran the calls up to its boundary alone.
 use crate::asks::Ask;
-use crate::crashes::{Mounts, Volumes, mount_between};
+use crate::crashes::{Mounts, Part, Volumes, mount_between};
 use crate::shown::Shown;
 use crate::test_disk::TestDisk;
 use crate::volume::{
@@ -112,12 +112,16 @@ const COUNTING: u32 = 5 + 7 + (1 + 3 + 5);
 
 const COUNTING_RECOVERED: u32 = 5 + (1 + 3 + 5);
 
-// From 2 to 9, to 12, and to 15.
-const PLACING: u32 = 5 + 7 + 9 + 11 + 13 + 15 + 17 + 19;
+// From 2 to 9, to 12, and to 15, each in two parts of so many numbers of changes and the others.
+const PLACING: (u32, u32) = (5 + 7 + 9 + 11 + 13, 15 + 17 + 19);
 
-const PLACING_NEXT: u32 = 19 + 21 + 23 + 25;
+const PLACING_CUT: usize = 5;
 
-const PLACING_LAST: u32 = 25 + 27 + 29 + 31;
+const PLACING_NEXT: (u32, u32) = (19 + 21, 23 + 25);
+
+const PLACING_LAST: (u32, u32) = (25 + 27, 29 + 31);
+
+const PLACING_LATER_CUT: usize = 2;
 
 // All are recovered before the last stage, which writes after two payloads, and one at least where that write is lost.
 const COMMITTING: u32 = COMMITTING_BEFORE + 7 + 1;
@@ -244,12 +248,14 @@ fn changes_of(
     Ok(stopped(rt, flushed(rt, alloc, new, stages)?).changes())
 }
 
-// Mounts what crashes may leave from the end of one of these stages to that of the other: so many images at least.
+// Mounts what crashes may leave in a part of the flush from the end of one of these stages to that of the other: so many
+// images at least.
 fn mount_stages(
     rt: &impl Abort,
     alloc: Global,
     from: u32,
     to: u32,
+    part: Part,
     least: u32,
 ) -> Result<Mounts, NoMemory> {
     let new = nearly_filled(rt, alloc)?;
@@ -257,7 +263,15 @@ fn mount_stages(
     let disk = stopped(rt, flushed(rt, alloc, &new, STAGES)?);
     let first = changes_of(rt, alloc, &new, from)?;
     let last = changes_of(rt, alloc, &new, to)?;
-    let mounts = mount_between(rt, alloc, &volumes, &disk, (first, last), disk.changes())?;
+    let mounts = mount_between(
+        rt,
+        alloc,
+        &volumes,
+        &disk,
+        (first, last),
+        part,
+        disk.changes(),
+    )?;
     assert!(rt; least <= mounts.images, "{mounts:?}");
     Ok(mounts)
 }
@@ -271,46 +285,92 @@ fn a_flush_with_calls_between_its_stages_ends_as_alone(rt: HostRuntime) -> Resul
 
 #[test]
 fn a_crash_while_the_log_is_begun_leaves_the_old_volume(rt: HostRuntime) -> Result<(), Fail> {
-    let mounts = mount_stages(&rt, rt.alloc(), 0, HALF_LOGGED, BEGUN)?;
+    let mounts = mount_stages(&rt, rt.alloc(), 0, HALF_LOGGED, Part::All, BEGUN)?;
     assert_eq!(rt; mounts.recovered, 0);
     Ok(())
 }
 
 #[test]
 fn a_crash_while_the_log_is_written_leaves_the_old_volume(rt: HostRuntime) -> Result<(), Fail> {
-    let mounts = mount_stages(&rt, rt.alloc(), HALF_LOGGED, LOGGED, WRITTEN)?;
+    let mounts = mount_stages(&rt, rt.alloc(), HALF_LOGGED, LOGGED, Part::All, WRITTEN)?;
     assert_eq!(rt; mounts.recovered, 0);
     Ok(())
 }
 
 #[test]
 fn a_crash_before_the_log_counts_leaves_the_old_volume(rt: HostRuntime) -> Result<(), Fail> {
-    let mounts = mount_stages(&rt, rt.alloc(), LOGGED, ARMED - 1, SETTLED)?;
+    let mounts = mount_stages(&rt, rt.alloc(), LOGGED, ARMED - 1, Part::All, SETTLED)?;
     assert_eq!(rt; mounts.recovered, 0);
     Ok(())
 }
 
 #[test]
 fn a_crash_as_the_log_comes_to_count_leaves_the_old_volume(rt: HostRuntime) -> Result<(), Fail> {
-    let mounts = mount_stages(&rt, rt.alloc(), ARMED - 1, ARMED, COUNTING)?;
+    let mounts = mount_stages(&rt, rt.alloc(), ARMED - 1, ARMED, Part::All, COUNTING)?;
     assert!(rt; COUNTING_RECOVERED <= mounts.recovered, "{mounts:?}");
     Ok(())
 }
 
 #[test]
-fn a_crash_while_the_first_pages_are_placed_leaves_the_old_volume(
+fn a_crash_while_the_first_page_is_placed_leaves_the_old_volume(
     rt: HostRuntime,
 ) -> Result<(), Fail> {
-    let mounts = mount_stages(&rt, rt.alloc(), ARMED, TWO_PLACED, PLACING)?;
+    let part = Part::First(PLACING_CUT);
+    let mounts = mount_stages(&rt, rt.alloc(), ARMED, TWO_PLACED, part, PLACING.0)?;
     assert_eq!(rt; mounts.recovered, mounts.images);
     Ok(())
 }
 
 #[test]
-fn a_crash_while_the_next_page_is_placed_leaves_the_old_volume(
+fn a_crash_while_the_second_page_is_placed_leaves_the_old_volume(
     rt: HostRuntime,
 ) -> Result<(), Fail> {
-    let mounts = mount_stages(&rt, rt.alloc(), TWO_PLACED, THREE_PLACED, PLACING_NEXT)?;
+    let part = Part::Rest(PLACING_CUT);
+    let mounts = mount_stages(&rt, rt.alloc(), ARMED, TWO_PLACED, part, PLACING.1)?;
+    assert_eq!(rt; mounts.recovered, mounts.images);
+    Ok(())
+}
+
+#[test]
+fn a_crash_before_the_third_page_is_placed_leaves_the_old_volume(
+    rt: HostRuntime,
+) -> Result<(), Fail> {
+    let part = Part::First(PLACING_LATER_CUT);
+    let mounts = mount_stages(
+        &rt,
+        rt.alloc(),
+        TWO_PLACED,
+        THREE_PLACED,
+        part,
+        PLACING_NEXT.0,
+    )?;
+    assert_eq!(rt; mounts.recovered, mounts.images);
+    Ok(())
+}
+
+#[test]
+fn a_crash_while_the_third_page_is_placed_leaves_the_old_volume(
+    rt: HostRuntime,
+) -> Result<(), Fail> {
+    let part = Part::Rest(PLACING_LATER_CUT);
+    let mounts = mount_stages(
+        &rt,
+        rt.alloc(),
+        TWO_PLACED,
+        THREE_PLACED,
+        part,
+        PLACING_NEXT.1,
+    )?;
+    assert_eq!(rt; mounts.recovered, mounts.images);
+    Ok(())
+}
+
+#[test]
+fn a_crash_before_the_last_page_is_placed_leaves_the_old_volume(
+    rt: HostRuntime,
+) -> Result<(), Fail> {
+    let part = Part::First(PLACING_LATER_CUT);
+    let mounts = mount_stages(&rt, rt.alloc(), THREE_PLACED, PLACED, part, PLACING_LAST.0)?;
     assert_eq!(rt; mounts.recovered, mounts.images);
     Ok(())
 }
@@ -319,14 +379,15 @@ fn a_crash_while_the_next_page_is_placed_leaves_the_old_volume(
 fn a_crash_while_the_last_page_is_placed_leaves_the_old_volume(
     rt: HostRuntime,
 ) -> Result<(), Fail> {
-    let mounts = mount_stages(&rt, rt.alloc(), THREE_PLACED, PLACED, PLACING_LAST)?;
+    let part = Part::Rest(PLACING_LATER_CUT);
+    let mounts = mount_stages(&rt, rt.alloc(), THREE_PLACED, PLACED, part, PLACING_LAST.1)?;
     assert_eq!(rt; mounts.recovered, mounts.images);
     Ok(())
 }
 
 #[test]
 fn a_crash_while_the_header_changes_leaves_one_of_two_volumes(rt: HostRuntime) -> Result<(), Fail> {
-    let mounts = mount_stages(&rt, rt.alloc(), PLACED, STAGES, COMMITTING)?;
+    let mounts = mount_stages(&rt, rt.alloc(), PLACED, STAGES, Part::All, COMMITTING)?;
     assert!(rt; COMMITTING_RECOVERED <= mounts.recovered, "{mounts:?}");
     Ok(())
 }

@@ -79,6 +79,27 @@ fn image_of(
     disk.crashed(alloc, count, Crash::Torn { write, front })
 }
 
+// Which of the changes of a disk from one to another a test takes, so that it has its time.
+#[derive(Clone, Copy)]
+pub enum Part {
+    All,
+    // So many of them.
+    First(usize),
+    // Those behind so many.
+    Rest(usize),
+}
+
+impl Part {
+    fn of(self, changes: (usize, usize)) -> (usize, usize) {
+        let (first, last) = changes;
+        match self {
+            Part::All => changes,
+            Part::First(count) => (first, first.saturating_add(count).saturating_sub(1)),
+            Part::Rest(count) => (first.saturating_add(count), last),
+        }
+    }
+}
+
 // How many images were mounted, and how many of them recovered: the disk was changed by it.
 #[derive(Clone, Copy, Debug)]
 pub struct Mounts {
@@ -104,27 +125,24 @@ fn mount_all(
         if first < next.changes() {
             mounts.recovered = mounts.recovered.saturating_add(1);
         }
-        let cuts = match way {
-            0 if is_before_sync(disk, count) => Cuts::EachTwice,
-            0 => Cuts::Each,
-            _ => Cuts::One(way % 8),
-        };
-        mount_within(rt, alloc, volumes, &next, first, is, cuts)?;
+        let twice = way == 0 && is_before_sync(disk, count);
+        mount_within(rt, alloc, volumes, &next, first, is, twice)?;
     }
     Ok(())
 }
 
-// Mounts what crashes may leave after each number of changes of a disk from one to another, within a flush that has
-// ended after so many.
+// Mounts what crashes may leave after each number of changes of a disk in a part of those from one to another, within a
+// flush that has ended after so many.
 pub fn mount_between(
     rt: &impl Abort,
     alloc: Global,
     volumes: &Volumes,
     disk: &TestDisk,
     changes: (usize, usize),
+    part: Part,
     end: usize,
 ) -> Result<Mounts, NoMemory> {
-    let (first, last) = changes;
+    let (first, last) = part.of(changes);
     let mut mounts = Mounts {
         images: 0,
         recovered: 0,
@@ -140,18 +158,8 @@ pub fn mount_between(
     Ok(mounts)
 }
 
-// At which of its changes a recovery is cut off.
-#[derive(Clone, Copy)]
-enum Cuts {
-    // At one of eight, as the disk reads.
-    One(usize),
-    // At each, as the disk reads.
-    Each,
-    // At each, and where a sync is next in all ways. As the disk reads, so is each recovery that follows.
-    EachTwice,
-}
-
-// Mounts what crashes within a recovery may leave.
+// Mounts what crashes within a recovery may leave: after each of its changes, as the disk reads. Twice over, it is so in
+// all ways where a sync is next, and where the disk reads so of each recovery that follows.
 fn mount_within(
     rt: &impl Abort,
     alloc: Global,
@@ -159,19 +167,19 @@ fn mount_within(
     disk: &TestDisk,
     first: usize,
     due: Due,
-    cuts: Cuts,
+    twice: bool,
 ) -> Result<(), NoMemory> {
     for count in first..disk.changes() {
-        let most = match cuts {
-            Cuts::One(place) if count % 8 != place => 0,
-            Cuts::EachTwice if is_before_sync(disk, count) => ways(disk, count),
-            _ => 1,
+        let most = if twice && is_before_sync(disk, count) {
+            ways(disk, count)
+        } else {
+            1
         };
         for way in 0..most {
             let image = image_of(alloc, disk, count, way)?;
             let first = image.changes();
             let (next, _) = volumes.check(rt, alloc, image, due)?;
-            if way == 0 && matches!(cuts, Cuts::EachTwice) {
+            if twice && way == 0 {
                 mount_again(rt, alloc, volumes, &next, first, due)?;
             }
         }

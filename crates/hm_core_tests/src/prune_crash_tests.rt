@@ -2,7 +2,7 @@
 // and compared with a volume that ran the same calls and units alone.
 use crate::between::{Between, Flush, go_on_by, make_stages, mount_runs, shown_of};
 use crate::crash_tests::nearly_filled;
-use crate::crashes::{Mounts, Volumes};
+use crate::crashes::{Mounts, Part, Volumes};
 use crate::elements::{ON, dead, elements_on};
 use crate::run::Run;
 use crate::test_disk::TestDisk;
@@ -178,17 +178,26 @@ const COUNTING: u32 = 5 + 7 + 1 + 3 + (1 + 3 + 5) + 7 + (1 + 3 + 5);
 // All but where the header that names the log is lost or torn.
 const COUNTING_RECOVERED: u32 = 5 + (1 + 3 + 5);
 
-// From 2 to 10, and to 13.
-const PLACING: u32 = 5 + 7 + 9 + 11 + 13 + 15 + 17 + 19 + 21;
+// From 2 to 10, and to 13, each in two parts of so many numbers of changes and the others.
+const PLACING: (u32, u32) = (5 + 7 + 9 + 11 + 13, 15 + 17 + 19 + 21);
 
-const PLACING_LAST: u32 = 21 + 23 + 25 + 27;
+const PLACING_CUT: usize = 5;
+
+const PLACING_LAST: (u32, u32) = (21 + 23, 25 + 27);
+
+const PLACING_LAST_CUT: usize = 2;
+
+// The header that is about to be opened, in so many numbers of changes, and then the rest.
+const OPENING: u32 = 27 + (1 + 3 + 5) + 7;
+
+const OPENING_CUT: usize = 5;
 
 const COMMITTING: u32 = COMMITTING_BEFORE + 5 + 1;
 
 // All before the last stage, and one at least where its write is lost.
 const COMMITTING_RECOVERED: u32 = COMMITTING_BEFORE + 1;
 
-const COMMITTING_BEFORE: u32 = 27 + (1 + 3 + 5) + 7 + (1 + 3 + 5 + 7 + 9 + 11 + 13) + 15 + (1 + 3);
+const COMMITTING_BEFORE: u32 = (1 + 3 + 5 + 7 + 9 + 11 + 13) + 15 + (1 + 3);
 
 // From none to 11.
 const UNITS_WRITTEN: u32 = 1 + 3 + 5 + 7 + 9 + 11 + 13 + 15 + 17 + 19 + 21 + 23 + 1;
@@ -259,20 +268,21 @@ fn volumes_alone(
     })
 }
 
-// Mounts what crashes may leave within a flush, from the end of one of these stages to that of the other.
+// Mounts what crashes may leave in a part of a flush, from the end of one of these stages to that of the other.
 fn mount_stages(
     rt: &impl Abort,
     alloc: Global,
     flush: Flush,
     from: u32,
     to: u32,
+    part: Part,
 ) -> Result<Mounts, NoMemory> {
     let new = nearly_filled(rt, alloc)?;
     let volumes = volumes_alone(rt, alloc, &new, flush.before)?;
     let ended = flushed(rt, alloc, &new, flush.end)?;
     let first = flushed(rt, alloc, &new, from)?;
     let last = flushed(rt, alloc, &new, to)?;
-    mount_runs(rt, alloc, &volumes, ended, first, last)
+    mount_runs(rt, alloc, &volumes, ended, first, last, part)
 }
 
 // The id of the opening of the last prune: each line has one, and each ending.
@@ -317,7 +327,7 @@ fn prunes_between_stages_end_as_alone(rt: HostRuntime) -> Result<(), Fail> {
 fn a_crash_while_the_log_of_an_opening_is_begun_leaves_the_old_volume(
     rt: HostRuntime,
 ) -> Result<(), Fail> {
-    let mounts = mount_stages(&rt, rt.alloc(), OF_OPENING, 0, HALF_LOGGED)?;
+    let mounts = mount_stages(&rt, rt.alloc(), OF_OPENING, 0, HALF_LOGGED, Part::All)?;
     assert!(rt; BEGUN <= mounts.images, "{mounts:?}");
     assert_eq!(rt; mounts.recovered, 0);
     Ok(())
@@ -327,7 +337,14 @@ fn a_crash_while_the_log_of_an_opening_is_begun_leaves_the_old_volume(
 fn a_crash_while_the_log_of_an_opening_is_written_leaves_the_old_volume(
     rt: HostRuntime,
 ) -> Result<(), Fail> {
-    let mounts = mount_stages(&rt, rt.alloc(), OF_OPENING, HALF_LOGGED, OF_OPENING.logged)?;
+    let mounts = mount_stages(
+        &rt,
+        rt.alloc(),
+        OF_OPENING,
+        HALF_LOGGED,
+        OF_OPENING.logged,
+        Part::All,
+    )?;
     assert!(rt; WRITTEN <= mounts.images, "{mounts:?}");
     assert_eq!(rt; mounts.recovered, 0);
     Ok(())
@@ -343,6 +360,7 @@ fn a_crash_as_the_log_of_an_opening_comes_to_count_leaves_the_old_volume(
         OF_OPENING,
         OF_OPENING.logged,
         OF_OPENING.armed,
+        Part::All,
     )?;
     assert!(rt; COUNTING <= mounts.images, "{mounts:?}");
     assert!(rt; COUNTING_RECOVERED <= mounts.recovered, "{mounts:?}");
@@ -350,21 +368,85 @@ fn a_crash_as_the_log_of_an_opening_comes_to_count_leaves_the_old_volume(
 }
 
 #[test]
-fn a_crash_while_the_first_pages_of_an_opening_are_placed_leaves_the_old_volume(
+fn a_crash_while_the_first_page_of_an_opening_is_placed_leaves_the_old_volume(
     rt: HostRuntime,
 ) -> Result<(), Fail> {
-    let mounts = mount_stages(&rt, rt.alloc(), OF_OPENING, OF_OPENING.armed, HALF_PLACED)?;
-    assert!(rt; PLACING <= mounts.images, "{mounts:?}");
+    let part = Part::First(PLACING_CUT);
+    let mounts = mount_stages(
+        &rt,
+        rt.alloc(),
+        OF_OPENING,
+        OF_OPENING.armed,
+        HALF_PLACED,
+        part,
+    )?;
+    assert!(rt; PLACING.0 <= mounts.images, "{mounts:?}");
     assert_eq!(rt; mounts.recovered, mounts.images);
     Ok(())
 }
 
 #[test]
-fn a_crash_while_the_last_pages_of_an_opening_are_placed_leaves_the_old_volume(
+fn a_crash_while_the_second_page_of_an_opening_is_placed_leaves_the_old_volume(
     rt: HostRuntime,
 ) -> Result<(), Fail> {
-    let mounts = mount_stages(&rt, rt.alloc(), OF_OPENING, HALF_PLACED, OF_OPENING.placed)?;
-    assert!(rt; PLACING_LAST <= mounts.images, "{mounts:?}");
+    let part = Part::Rest(PLACING_CUT);
+    let mounts = mount_stages(
+        &rt,
+        rt.alloc(),
+        OF_OPENING,
+        OF_OPENING.armed,
+        HALF_PLACED,
+        part,
+    )?;
+    assert!(rt; PLACING.1 <= mounts.images, "{mounts:?}");
+    assert_eq!(rt; mounts.recovered, mounts.images);
+    Ok(())
+}
+
+#[test]
+fn a_crash_while_the_third_page_of_an_opening_is_placed_leaves_the_old_volume(
+    rt: HostRuntime,
+) -> Result<(), Fail> {
+    let part = Part::First(PLACING_LAST_CUT);
+    let mounts = mount_stages(
+        &rt,
+        rt.alloc(),
+        OF_OPENING,
+        HALF_PLACED,
+        OF_OPENING.placed,
+        part,
+    )?;
+    assert!(rt; PLACING_LAST.0 <= mounts.images, "{mounts:?}");
+    assert_eq!(rt; mounts.recovered, mounts.images);
+    Ok(())
+}
+
+#[test]
+fn a_crash_while_the_last_page_of_an_opening_is_placed_leaves_the_old_volume(
+    rt: HostRuntime,
+) -> Result<(), Fail> {
+    let part = Part::Rest(PLACING_LAST_CUT);
+    let mounts = mount_stages(
+        &rt,
+        rt.alloc(),
+        OF_OPENING,
+        HALF_PLACED,
+        OF_OPENING.placed,
+        part,
+    )?;
+    assert!(rt; PLACING_LAST.1 <= mounts.images, "{mounts:?}");
+    assert_eq!(rt; mounts.recovered, mounts.images);
+    Ok(())
+}
+
+#[test]
+fn a_crash_before_the_header_of_an_opening_changes_leaves_the_old_volume(
+    rt: HostRuntime,
+) -> Result<(), Fail> {
+    let part = Part::First(OPENING_CUT);
+    let (from, to) = (OF_OPENING.placed, OF_OPENING.end);
+    let mounts = mount_stages(&rt, rt.alloc(), OF_OPENING, from, to, part)?;
+    assert!(rt; OPENING <= mounts.images, "{mounts:?}");
     assert_eq!(rt; mounts.recovered, mounts.images);
     Ok(())
 }
@@ -373,13 +455,9 @@ fn a_crash_while_the_last_pages_of_an_opening_are_placed_leaves_the_old_volume(
 fn a_crash_while_the_header_of_an_opening_changes_leaves_one_of_two_volumes(
     rt: HostRuntime,
 ) -> Result<(), Fail> {
-    let mounts = mount_stages(
-        &rt,
-        rt.alloc(),
-        OF_OPENING,
-        OF_OPENING.placed,
-        OF_OPENING.end,
-    )?;
+    let part = Part::Rest(OPENING_CUT);
+    let (from, to) = (OF_OPENING.placed, OF_OPENING.end);
+    let mounts = mount_stages(&rt, rt.alloc(), OF_OPENING, from, to, part)?;
     assert!(rt; COMMITTING <= mounts.images, "{mounts:?}");
     assert!(rt; COMMITTING_RECOVERED <= mounts.recovered, "{mounts:?}");
     Ok(())
@@ -389,7 +467,14 @@ fn a_crash_while_the_header_of_an_opening_changes_leaves_one_of_two_volumes(
 fn a_crash_while_the_log_of_units_is_written_leaves_the_old_volume(
     rt: HostRuntime,
 ) -> Result<(), Fail> {
-    let mounts = mount_stages(&rt, rt.alloc(), OF_UNITS, OF_UNITS.before, OF_UNITS.logged)?;
+    let mounts = mount_stages(
+        &rt,
+        rt.alloc(),
+        OF_UNITS,
+        OF_UNITS.before,
+        OF_UNITS.logged,
+        Part::All,
+    )?;
     assert!(rt; UNITS_WRITTEN <= mounts.images, "{mounts:?}");
     assert_eq!(rt; mounts.recovered, 0);
     Ok(())
@@ -399,7 +484,14 @@ fn a_crash_while_the_log_of_units_is_written_leaves_the_old_volume(
 fn a_crash_as_the_log_of_units_comes_to_count_leaves_the_old_volume(
     rt: HostRuntime,
 ) -> Result<(), Fail> {
-    let mounts = mount_stages(&rt, rt.alloc(), OF_UNITS, OF_UNITS.logged, OF_UNITS.armed)?;
+    let mounts = mount_stages(
+        &rt,
+        rt.alloc(),
+        OF_UNITS,
+        OF_UNITS.logged,
+        OF_UNITS.armed,
+        Part::All,
+    )?;
     assert!(rt; UNITS_COUNTING <= mounts.images, "{mounts:?}");
     assert!(rt; UNITS_COUNTING_RECOVERED <= mounts.recovered, "{mounts:?}");
     Ok(())
@@ -407,7 +499,14 @@ fn a_crash_as_the_log_of_units_comes_to_count_leaves_the_old_volume(
 
 #[test]
 fn a_crash_while_units_are_placed_leaves_the_old_volume(rt: HostRuntime) -> Result<(), Fail> {
-    let mounts = mount_stages(&rt, rt.alloc(), OF_UNITS, OF_UNITS.armed, OF_UNITS.placed)?;
+    let mounts = mount_stages(
+        &rt,
+        rt.alloc(),
+        OF_UNITS,
+        OF_UNITS.armed,
+        OF_UNITS.placed,
+        Part::All,
+    )?;
     assert!(rt; UNITS_PLACING <= mounts.images, "{mounts:?}");
     assert_eq!(rt; mounts.recovered, mounts.images);
     Ok(())
@@ -417,7 +516,14 @@ fn a_crash_while_units_are_placed_leaves_the_old_volume(rt: HostRuntime) -> Resu
 fn a_crash_while_the_header_of_units_changes_leaves_one_of_two_volumes(
     rt: HostRuntime,
 ) -> Result<(), Fail> {
-    let mounts = mount_stages(&rt, rt.alloc(), OF_UNITS, OF_UNITS.placed, OF_UNITS.end)?;
+    let mounts = mount_stages(
+        &rt,
+        rt.alloc(),
+        OF_UNITS,
+        OF_UNITS.placed,
+        OF_UNITS.end,
+        Part::All,
+    )?;
     assert!(rt; UNITS_COMMITTING <= mounts.images, "{mounts:?}");
     assert!(rt;
         UNITS_COMMITTING_RECOVERED <= mounts.recovered,

@@ -1,7 +1,7 @@
 // Crashes within two flushes, after nearly each of whose stages a unit of a reblock is done, and calls go on: each image
 // is mounted, and compared with a volume that ran the same calls without a reblock.
 use crate::between::{Between, Flush, go_on, go_on_by, make_stages, mount_runs, shown_of};
-use crate::crashes::{Mounts, Volumes};
+use crate::crashes::{Mounts, Part, Volumes};
 use crate::elements::elements_on;
 use crate::run::Run;
 use crate::test_disk::TestDisk;
@@ -168,8 +168,10 @@ const COUNTING: u32 = 1 + 3 + (1 + 3 + 5) + 7 + 1 + 3 + 1;
 // One at least where the header that names the log is there, and all once it is settled.
 const COUNTING_RECOVERED: u32 = 1 + 1;
 
-// From none to 8.
-const PLACING: u32 = 1 + 3 + 5 + 7 + 9 + 11 + 13 + 15 + 17;
+// From none to 8, in two parts of so many numbers of changes and the others.
+const PLACING: (u32, u32) = (1 + 3 + 5 + 7 + 9 + 11, 13 + 15 + 17);
+
+const PLACING_CUT: usize = 6;
 
 const COMMITTING: u32 = COMMITTING_BEFORE + 5 + 1;
 
@@ -186,8 +188,8 @@ const NODES_COUNTING: u32 = 3 + 5 + (1 + 3 + 5 + 7) + 9 + (1 + 3) + 5 + (1 + 3);
 // All but where the header that names the log is lost or torn.
 const NODES_COUNTING_RECOVERED: u32 = 3 + (1 + 3);
 
-// From 1 to 10.
-const NODES_PLACING: u32 = 3 + 5 + 7 + 9 + 11 + 13 + 15 + 17 + 19 + 21;
+// From 1 to 10, in two parts as well.
+const NODES_PLACING: (u32, u32) = (3 + 5 + 7 + 9 + 11 + 13, 15 + 17 + 19 + 21);
 
 const NODES_COMMITTING: u32 = NODES_COMMITTING_BEFORE + 3 + 1;
 
@@ -332,20 +334,21 @@ fn volumes_alone(
     })
 }
 
-// Mounts what crashes may leave within a flush, from the end of one of these stages to that of the other.
+// Mounts what crashes may leave in a part of a flush, from the end of one of these stages to that of the other.
 fn mount_stages(
     rt: &impl Abort,
     alloc: Global,
     flush: Flush,
     from: u32,
     to: u32,
+    part: Part,
 ) -> Result<Mounts, NoMemory> {
     let used = used(rt, alloc)?;
     let volumes = volumes_alone(rt, alloc, &used, flush.before)?;
     let ended = flushed(rt, alloc, &used, flush.end)?;
     let first = flushed(rt, alloc, &used, from)?;
     let last = flushed(rt, alloc, &used, to)?;
-    mount_runs(rt, alloc, &volumes, ended, first, last)
+    mount_runs(rt, alloc, &volumes, ended, first, last, part)
 }
 
 // All is as without a reblock once the volume is flushed again, and nothing refers to what the reblocks have emptied: what
@@ -390,7 +393,7 @@ fn the_space_that_reblocks_emptied_comes_back_with_the_next_flush(
 fn a_crash_while_the_log_of_pieces_is_begun_leaves_the_old_volume(
     rt: HostRuntime,
 ) -> Result<(), Fail> {
-    let mounts = mount_stages(&rt, rt.alloc(), OF_PIECES, 0, HALF_LOGGED)?;
+    let mounts = mount_stages(&rt, rt.alloc(), OF_PIECES, 0, HALF_LOGGED, Part::All)?;
     assert!(rt; BEGUN <= mounts.images, "{mounts:?}");
     assert_eq!(rt; mounts.recovered, 0);
     Ok(())
@@ -400,7 +403,14 @@ fn a_crash_while_the_log_of_pieces_is_begun_leaves_the_old_volume(
 fn a_crash_while_the_log_of_pieces_is_written_leaves_the_old_volume(
     rt: HostRuntime,
 ) -> Result<(), Fail> {
-    let mounts = mount_stages(&rt, rt.alloc(), OF_PIECES, HALF_LOGGED, OF_PIECES.logged)?;
+    let mounts = mount_stages(
+        &rt,
+        rt.alloc(),
+        OF_PIECES,
+        HALF_LOGGED,
+        OF_PIECES.logged,
+        Part::All,
+    )?;
     assert!(rt; WRITTEN <= mounts.images, "{mounts:?}");
     assert_eq!(rt; mounts.recovered, 0);
     Ok(())
@@ -416,6 +426,7 @@ fn a_crash_as_the_log_of_pieces_comes_to_count_leaves_the_old_volume(
         OF_PIECES,
         OF_PIECES.logged,
         OF_PIECES.armed,
+        Part::All,
     )?;
     assert!(rt; COUNTING <= mounts.images, "{mounts:?}");
     assert!(rt; COUNTING_RECOVERED <= mounts.recovered, "{mounts:?}");
@@ -423,17 +434,37 @@ fn a_crash_as_the_log_of_pieces_comes_to_count_leaves_the_old_volume(
 }
 
 #[test]
-fn a_crash_while_the_pages_of_pieces_are_placed_leaves_the_old_volume(
+fn a_crash_while_the_first_pages_of_pieces_are_placed_leaves_the_old_volume(
     rt: HostRuntime,
 ) -> Result<(), Fail> {
+    let part = Part::First(PLACING_CUT);
     let mounts = mount_stages(
         &rt,
         rt.alloc(),
         OF_PIECES,
         OF_PIECES.armed,
         OF_PIECES.placed,
+        part,
     )?;
-    assert!(rt; PLACING <= mounts.images, "{mounts:?}");
+    assert!(rt; PLACING.0 <= mounts.images, "{mounts:?}");
+    assert_eq!(rt; mounts.recovered, mounts.images);
+    Ok(())
+}
+
+#[test]
+fn a_crash_while_the_last_pages_of_pieces_are_placed_leaves_the_old_volume(
+    rt: HostRuntime,
+) -> Result<(), Fail> {
+    let part = Part::Rest(PLACING_CUT);
+    let mounts = mount_stages(
+        &rt,
+        rt.alloc(),
+        OF_PIECES,
+        OF_PIECES.armed,
+        OF_PIECES.placed,
+        part,
+    )?;
+    assert!(rt; PLACING.1 <= mounts.images, "{mounts:?}");
     assert_eq!(rt; mounts.recovered, mounts.images);
     Ok(())
 }
@@ -442,7 +473,14 @@ fn a_crash_while_the_pages_of_pieces_are_placed_leaves_the_old_volume(
 fn a_crash_while_the_header_of_pieces_changes_leaves_one_of_two_volumes(
     rt: HostRuntime,
 ) -> Result<(), Fail> {
-    let mounts = mount_stages(&rt, rt.alloc(), OF_PIECES, OF_PIECES.placed, OF_PIECES.end)?;
+    let mounts = mount_stages(
+        &rt,
+        rt.alloc(),
+        OF_PIECES,
+        OF_PIECES.placed,
+        OF_PIECES.end,
+        Part::All,
+    )?;
     assert!(rt; COMMITTING <= mounts.images, "{mounts:?}");
     assert!(rt; COMMITTING_RECOVERED <= mounts.recovered, "{mounts:?}");
     Ok(())
@@ -452,7 +490,14 @@ fn a_crash_while_the_header_of_pieces_changes_leaves_one_of_two_volumes(
 fn a_crash_while_the_log_of_nodes_is_written_leaves_the_old_volume(
     rt: HostRuntime,
 ) -> Result<(), Fail> {
-    let mounts = mount_stages(&rt, rt.alloc(), OF_NODES, OF_NODES.before, OF_NODES.logged)?;
+    let mounts = mount_stages(
+        &rt,
+        rt.alloc(),
+        OF_NODES,
+        OF_NODES.before,
+        OF_NODES.logged,
+        Part::All,
+    )?;
     assert!(rt; NODES_WRITTEN <= mounts.images, "{mounts:?}");
     assert_eq!(rt; mounts.recovered, 0);
     Ok(())
@@ -462,16 +507,51 @@ fn a_crash_while_the_log_of_nodes_is_written_leaves_the_old_volume(
 fn a_crash_as_the_log_of_nodes_comes_to_count_leaves_the_old_volume(
     rt: HostRuntime,
 ) -> Result<(), Fail> {
-    let mounts = mount_stages(&rt, rt.alloc(), OF_NODES, OF_NODES.logged, OF_NODES.armed)?;
+    let mounts = mount_stages(
+        &rt,
+        rt.alloc(),
+        OF_NODES,
+        OF_NODES.logged,
+        OF_NODES.armed,
+        Part::All,
+    )?;
     assert!(rt; NODES_COUNTING <= mounts.images, "{mounts:?}");
     assert!(rt; NODES_COUNTING_RECOVERED <= mounts.recovered, "{mounts:?}");
     Ok(())
 }
 
 #[test]
-fn a_crash_while_moved_nodes_are_placed_leaves_the_old_volume(rt: HostRuntime) -> Result<(), Fail> {
-    let mounts = mount_stages(&rt, rt.alloc(), OF_NODES, OF_NODES.armed, OF_NODES.placed)?;
-    assert!(rt; NODES_PLACING <= mounts.images, "{mounts:?}");
+fn a_crash_while_the_first_moved_nodes_are_placed_leaves_the_old_volume(
+    rt: HostRuntime,
+) -> Result<(), Fail> {
+    let part = Part::First(PLACING_CUT);
+    let mounts = mount_stages(
+        &rt,
+        rt.alloc(),
+        OF_NODES,
+        OF_NODES.armed,
+        OF_NODES.placed,
+        part,
+    )?;
+    assert!(rt; NODES_PLACING.0 <= mounts.images, "{mounts:?}");
+    assert_eq!(rt; mounts.recovered, mounts.images);
+    Ok(())
+}
+
+#[test]
+fn a_crash_while_the_last_moved_nodes_are_placed_leaves_the_old_volume(
+    rt: HostRuntime,
+) -> Result<(), Fail> {
+    let part = Part::Rest(PLACING_CUT);
+    let mounts = mount_stages(
+        &rt,
+        rt.alloc(),
+        OF_NODES,
+        OF_NODES.armed,
+        OF_NODES.placed,
+        part,
+    )?;
+    assert!(rt; NODES_PLACING.1 <= mounts.images, "{mounts:?}");
     assert_eq!(rt; mounts.recovered, mounts.images);
     Ok(())
 }
@@ -480,7 +560,14 @@ fn a_crash_while_moved_nodes_are_placed_leaves_the_old_volume(rt: HostRuntime) -
 fn a_crash_while_the_header_of_moved_nodes_changes_leaves_one_of_two_volumes(
     rt: HostRuntime,
 ) -> Result<(), Fail> {
-    let mounts = mount_stages(&rt, rt.alloc(), OF_NODES, OF_NODES.placed, OF_NODES.end)?;
+    let mounts = mount_stages(
+        &rt,
+        rt.alloc(),
+        OF_NODES,
+        OF_NODES.placed,
+        OF_NODES.end,
+        Part::All,
+    )?;
     assert!(rt; NODES_COMMITTING <= mounts.images, "{mounts:?}");
     assert!(rt;
         NODES_COMMITTING_RECOVERED <= mounts.recovered,
