@@ -6,7 +6,8 @@ ghost use Rattle.hm_core.specs.Served.{IsServed, IsSync};
 use hm_model::Command;
 
 /// Whether a core serves a command: the calls on names, on the bytes of files and on pseudo file systems,
-/// prunes, `reblock`, `df`, `sync` and `synctid`. `pfs-upgrade` and mirror calls are not served yet.
+/// prunes, `reblock`, `df`, `sync` and `synctid`. `pfs-upgrade`, mirror calls and `progress`
+/// are not served yet.
 pub fn is_served(command: &Command) -> bool
     ensures { IsTrue result ↔ IsServed command.now }
 {

@@ -64,7 +64,8 @@ impl<D: Disk, I, O> Core<D, I, O> {
 
     /// Opens the volume on a disk, and keeps two streams for it. Where the disk was cut off in a flush it
     /// is recovered first: the old pages that its header names are put back. Then it reads the freemap, the
-    /// tree and each payload, and writes nothing.
+    /// tree, and each inode, directory entry and record, and writes nothing. Of file bytes and of the targets
+    /// of softlinks it checks the lengths.
     ///
     /// An error hands back the disk and the streams, and says why: that the disk has no volume, that a
     /// field of its header is out of range, the first damage of its UNDO entries, its freemap or its tree,

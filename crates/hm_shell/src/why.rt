@@ -72,7 +72,7 @@ impl Why {
         let name = first_word(text);
         if text.ends_with(b"\r") {
             Why::CarriageReturn
-        } else if name.ends_with(b":") {
+        } else if is_lane(name) {
             Why::Lane
         } else if PLANNED.contains(&name) {
             Why::Planned
@@ -92,6 +92,14 @@ impl Why {
             Why::Words => "has words that this call does not take, or a value out of its range",
             Why::Name => "begins with no call's name",
         }
+    }
+}
+
+// Whether a word puts its line into a lane: a number from 1 to 8, and a colon.
+fn is_lane(word: &[u8]) -> bool {
+    match word {
+        [number, b':'] => b'1' <= *number && *number <= b'8',
+        _ => false,
     }
 }
 
