@@ -29,8 +29,8 @@ use Rattle.hm_model.specs.Foreign.{Foreigners}
 use Rattle.hm_model.specs.Volume.{Volume}
 use Rattle.hm_model.specs.declared.entry.Entry.{Entry}
 use Rattle.hm_prune.specs.Dead.{NoneDead, keeps_in}
-use Rattle.hm_reblock.specs.Choice.{NoneChosen, SomeChosen}
-use Rattle.hm_relocate.specs.Unit.{HasGotOn, LacksForOne, MovesChosenNode, TurnsToNodes, Way}
+use Rattle.hm_reblock.specs.Choice.{NoneChosen, SomeChosen, SomeChosenIn}
+use Rattle.hm_relocate.specs.Unit.{HasGotOn, IsToMove, LacksForOne, MovesChosenNode, TurnsToNodes, Way}
 use Rattle.hm_records.proofs.MemberLemmas.{map_has}
 use Rattle.hm_step.specs.Pruned.{KeepsWithin}
 use Rattle.hm_step.proofs.PrunedLemmas.{stand_pruned}
@@ -48,8 +48,8 @@ use Rattle.hm_core.specs.Open.{IsOpenIn}
 use Rattle.hm_core.specs.Open.{ids_kept_by}
 use Rattle.hm_core.specs.State.{OpenJob, job_with}
 use Rattle.hm_core.specs.Told.{ArePages}
-use Rattle.hm_core.specs.Unit.{ClearsChoice, IfMoreGetsOn, IfMoreMovesOn, KeepsPaid, LacksRoom, LeavesNoneDead, NoneDeadIn, TakesNodeOut}
-use Rattle.hm_core.specs.Unit.{TouchesElements, UnitLeaves, tree_elements}
+use Rattle.hm_core.specs.Unit.{ClearsChoice, MayMoveFrom, IfMoreGetsOn, IfMoreMovesOn, KeepsPaid, LacksForChoice, LeavesNoneDead, NoneDeadIn}
+use Rattle.hm_core.specs.Unit.{TakesNodeOut, TouchesElements, UnitLeaves, tree_elements}
 use Rattle.hm_core.proofs.CountLemmas.{disk_later, later_still, legal_later}
 use Rattle.hm_core.proofs.FitLemmas.{held_wide}
 use Rattle.hm_core.proofs.LackLemmas.{lacks_one}
@@ -160,6 +160,14 @@ module _ (ids : ℕ → Option (List (ℕ × ℕ))) (h h1 h2 h' : Heap) (root ro
   abbrev lists : Heap → ℕ → Option Lists
   lists heap at = content_of (told_elements true (pages_of heap) at) (extents_in heap)
 
+  -- what is told of the elements in the open call is so of the tree of the space before it
+  tells_before : (P : List Element → Type 0) (volume : Volume) → HoldsVolume h root last volume → IfSome (told_elements true (pages_of h1) root1) P
+      → IsSomeAnd (tree_elements h root) P
+  tells_before P volume holds told =
+      subst (λ (es : Option (List Element)). IsSomeAnd es P) (same_elements h h1 root root1 opens.pages.current same)
+      (told_from h1 root1 P (content_some (told_elements true (pages_of h1) root1) (extents_in h1) _ P
+      (tells_begun h h1 root root1 last closed kept opens same volume holds holds.elements.0 holds.elements.1) told))
+
   -- it was kept
   module _ (whole : h2.whole ≡ true) (keeps : IsKeptOf h2 h') (content : KeepsContent h2 h') (root_is : root' ≡ root2) (pages : ArePages h')
       (tree : HoldsTree (pages_of h2) root2)
@@ -222,17 +230,13 @@ module _ (ids : ℕ → Option (List (ℕ × ℕ))) (h h1 h2 h' : Heap) (root ro
         → IfSome (told_elements true (pages_of h1) root1) (λ was. A was × IsSomeAnd (told_elements true (pages_of h2) root2) (B was))
         → IsSomeAnd (tree_elements h root) (λ was. A was × IsSomeAnd (tree_elements h' root') (B was))
     tells_both A B volume holds told =
-        subst (λ (es : Option (List Element)). IsSomeAnd es (λ was. A was × IsSomeAnd (tree_elements h' root') (B was)))
-        (same_elements h h1 root root1 opens.pages.current same)
-        (and_more {P = λ was. A was × IsSomeAnd (told_elements true (pages_of h2) root2) (B was)}
-        {Q = λ was. A was × IsSomeAnd (tree_elements h' root') (B was)} (tree_elements h1 root1) (λ was both. (
+        and_more {P = λ was. A was × IsSomeAnd (told_elements true (pages_of h2) root2) (B was)}
+        {Q = λ was. A was × IsSomeAnd (tree_elements h' root') (B was)} (tree_elements h root) (λ was both. (
           both.0,
           subst (λ (es : Option (List Element)). IsSomeAnd es (B was)) (sym (same_elements h2 h' root2 root' keeps.pages.current root_is))
               (told_from h2 root2 (B was) both.1),
         ))
-        (told_from h1 root1 (λ was. A was × IsSomeAnd (told_elements true (pages_of h2) root2) (B was))
-        (content_some (told_elements true (pages_of h1) root1) (extents_in h1) _ _
-        (tells_begun h h1 root root1 last closed kept opens same volume holds holds.elements.0 holds.elements.1) told)))
+        (tells_before (λ was. A was × IsSomeAnd (told_elements true (pages_of h2) root2) (B was)) volume holds told)
 
     -- a node that moved in the open call moved in the space
     node_out : (choice : List ℕ) (volume : Volume) → HoldsVolume h root last volume → MovesChosenNode choice h1 h2 → TakesNodeOut choice h h'
@@ -328,10 +332,15 @@ module _ (ids : ℕ → Option (List (ℕ × ℕ))) (h h1 h2 h' : Heap) (root ro
         by None told is = absurd told
         by (Some was) told is = is
 
+  -- from where the open call may move something, it may be moved before it
+  moved_begun : (choice : List ℕ) (zone : ℕ) → IsToMove choice (told_elements true (pages_of h1) root1) zone → MayMoveFrom zone choice last h root
+  moved_begun choice zone (inl node) volume holds = inl node
+  moved_begun choice zone (inr told) volume holds = inr (tells_before (SomeChosenIn zone choice) volume holds told)
+
   -- where a zone lacked its reserve in the open call, it did so before
   pub lacks_begun : {T : Type 0} (choice : List ℕ) (result : Result T SpaceFault)
       → IfErr result (IfNoSpace (LacksForOne choice (told_elements true (pages_of h1) root1) (room_of h1) (free_of h1)))
-      → IfErr result (IfNoSpace (LacksRoom h))
+      → IfErr result (IfNoSpace (LacksForChoice choice last h root))
   lacks_begun choice (Ok x) is = tt
   lacks_begun choice (Err (of_store fault)) is = tt
   lacks_begun choice (Err (NoSpace free needed)) is =
@@ -340,11 +349,14 @@ module _ (ids : ℕ → Option (List (ℕ × ℕ))) (h h1 h2 h' : Heap) (root ro
       let told = is.lacks.free in
       let none = one.none in
       record {
-        zone = one.zone;
-        lacks =
-            (let there = room_begun h h1 root root1 last closed kept opens same one.zone in let lacks = one.lacks in omega (arith, there, lacks));
-        free_is = (told ∙ begun, told ∙ none);
-        needed_is = one.one;
+        room = record {
+          zone = is.zone;
+          lacks =
+              (let there = room_begun h h1 root root1 last closed kept opens same is.zone in let lacks = one.lacks in omega (arith, there, lacks));
+          free_is = (told ∙ begun, told ∙ none);
+          needed_is = one.one;
+        };
+        moved = moved_begun choice is.zone is.moved;
       }
 
 -- no more faults were counted at its end than at its start, if these are not looked at

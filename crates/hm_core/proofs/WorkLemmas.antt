@@ -14,16 +14,16 @@ use Rattle.hm_key.specs.declared.job.Progress.{Progress}
 use Rattle.hm_key.specs.declared.job.Progress.TheVariants.{Done, More}
 use Rattle.hm_model.specs.Volume.{Volume}
 use Rattle.hm_model.specs.declared.reply.Reply.{Reply}
-use Rattle.hm_model.specs.declared.reply.Reply.TheVariants.{Finished}
+use Rattle.hm_model.specs.declared.reply.Reply.TheVariants.{Finished, NoSpace as no_space}
 use Rattle.hm_relocate.specs.Unit.{Way}
 use Rattle.hm_stored.specs.Heap.{Heap}
 use Rattle.hm_state.specs.Volume.{HoldsVolume}
 use Rattle.hm_core.specs.Core.{Waits}
-use Rattle.hm_core.specs.Jobs.{DoesUnit, DoesWork, EndsWork, IsFull, OnJob, StopsWork}
+use Rattle.hm_core.specs.Jobs.{DoesUnit, DoesWork, EndsWork, IsFull, LacksBy, OnJob, StopsWork}
 use Rattle.hm_core.specs.Staged.{FailsStage, MakesStage}
-use Rattle.hm_core.specs.State.{CoreState, OpenJob, job_with}
+use Rattle.hm_core.specs.State.{CoreState, OpenJob, job_with, reblocking}
 use Rattle.hm_core.specs.Told.{reply_to, reply_to_stop}
-use Rattle.hm_core.specs.Unit.{IfMoreWorksOn, LacksFor}
+use Rattle.hm_core.specs.Unit.{IfMoreWorksOn, LacksFor, LacksForChoice}
 use Rattle.hm_core.proofs.StepLemmas.{stage_failure}
 
 -- a fault is told as no end
@@ -35,6 +35,31 @@ fault_ends_none NoMemory reply is done = cc
 pub stop_ends_none : (fault : SpaceFault) (reply : Reply) → reply ≡ reply_to_stop fault → reply ≡ Finished → ⊥
 stop_ends_none (of_store fault) reply is done = fault_ends_none fault reply is done
 stop_ends_none (NoSpace free needed) reply is done = cc
+
+-- so it is as no lack of space
+fault_lacks_none : (fault : Fault) (reply : Reply) → reply ≡ reply_to fault → (free needed : ℕ) → reply ≡ no_space free needed → ⊥
+fault_lacks_none (Media before after) reply is free needed lacks = cc
+fault_lacks_none (Damaged at kind) reply is free needed lacks = cc
+fault_lacks_none NoMemory reply is free needed lacks = cc
+
+pub fault_lacks : (choice : List ℕ) (old : CoreState) (fault : Fault) (reply : Reply) → reply ≡ reply_to fault → LacksBy choice old reply
+fault_lacks choice old fault reply is = λ free needed lacks. absurd (fault_lacks_none fault reply is free needed lacks)
+
+-- where a unit stopped for want of space, its reply tells so, with the same numbers
+pub stop_lacks : (choice : List ℕ) (old : CoreState) (fault : SpaceFault) (reply : Reply) → reply ≡ reply_to_stop fault
+    → IfNoSpace (LacksForChoice choice old.last old.heap old.root) fault → LacksBy choice old reply
+stop_lacks choice old (of_store fault) reply is lacks = fault_lacks choice old fault reply is
+stop_lacks choice old (NoSpace free needed) reply is lacks = λ told_free told_needed told.
+    let first : free ≡ told_free = cc in
+    let second : needed ≡ told_needed = cc in
+    subst (λ (x : ℕ × ℕ). LacksForChoice choice old.last old.heap old.root x.0 x.1) (λ i. (first i, second i)) lacks
+
+-- where a reblock lacks room for its choice, it lacks room
+pub lacks_room : {T : Type 0} (choice : List ℕ) (last : ℕ) (h : Heap) (root : ℕ) (result : Result T SpaceFault)
+    → IfErr result (IfNoSpace (LacksForChoice choice last h root)) → IfErr result (IfNoSpace (LacksFor reblocking h))
+lacks_room choice last h root (Ok x) lacks = tt
+lacks_room choice last h root (Err (of_store fault)) lacks = tt
+lacks_room choice last h root (Err (NoSpace free needed)) lacks = (tt, lacks.room)
 
 -- a stage tells no damage
 stage_undamaged : (at : Position) (old new : ℕ) (fault : Fault) → HasStageCause {T = Stage} at old new (Err fault) → IsUndamaged fault

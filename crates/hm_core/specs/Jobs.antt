@@ -1,5 +1,5 @@
 -- What a unit of an open call of housekeeping makes of a core, and its ending.
-use Rattle.std.specs.Prelude.{◌≡◌, ◌⊎◌, ℕ, ◌≤◌, IfErr, IfNone, IfSome, IsSome, List, Ok, Option, Result, Some, length}
+use Rattle.std.specs.Prelude.{◌≡◌, ◌⊎◌, ℕ, ◌≤◌, IfErr, IfNone, IfSome, IsSome, List, Ok, Option, Result, Some, length, slice_get}
 use Rattle.hm_types.specs.Faults.{IsCaused, IsUndamaged}
 use Rattle.hm_types.specs.declared.fault.Fault.{Fault}
 use Rattle.hm_types.specs.declared.fault.SpaceFault.{SpaceFault}
@@ -9,16 +9,18 @@ use Rattle.hm_key.specs.declared.job.Progress.{Progress}
 use Rattle.hm_key.specs.declared.job.Progress.TheVariants.{Done}
 use Rattle.hm_model.specs.Volume.{Volume}
 use Rattle.hm_model.specs.declared.command.Command.TheVariants.{End}
+use Rattle.hm_model.specs.declared.entry.Entry.{Entry}
 use Rattle.hm_model.specs.declared.reply.Reply.{Reply}
-use Rattle.hm_model.specs.declared.reply.Reply.TheVariants.{Finished}
+use Rattle.hm_model.specs.declared.reply.Reply.TheVariants.{Finished, NoSpace as no_space}
 use Rattle.hm_relocate.specs.Unit.{Way}
 use Rattle.hm_state.specs.Volume.{HoldsVolume}
+use Rattle.hm_core.specs.Chosen.{LeavesByUnit}
 use Rattle.hm_core.specs.Core.{Enters, Waits}
 use Rattle.hm_core.specs.Live.{CallKeepsLive, StageKeepsLive}
 use Rattle.hm_core.specs.Staged.{MakesStage}
 use Rattle.hm_core.specs.State.{CoreState, OpenJob, OpenWork, job_with, jobs_beside}
 use Rattle.hm_core.specs.Told.{reply_to_stop}
-use Rattle.hm_core.specs.Unit.{EndsOver, IfMoreWorksOn, LacksFor, WorksOn}
+use Rattle.hm_core.specs.Unit.{EndsOver, IfMoreWorksOn, LacksFor, LacksForChoice, WorksOn}
 use Rattle.hm_core.specs.declared.ticket.UnitEnd.{UnitEnd}
 use Rattle.hm_core.specs.declared.ticket.UnitEnd.TheVariants.{Ended, More, Spent}
 
@@ -122,3 +124,19 @@ abbrev pub IfMoreWorked : ℕ → Way → Way → List ℕ → List ℕ → Core
 IfMoreWorked opening from to was now old new (More ticket) = HasWorked opening from to was now old new
 IfMoreWorked opening from to was now old new (Ended place) = Unit {0}
 IfMoreWorked opening from to was now old new Spent = Unit {0}
+
+-- where a reply tells that space was lacking, it was so for what was to be moved out of this choice
+abbrev pub LacksBy : List ℕ → CoreState → Reply → Type 0
+LacksBy choice old reply = (free needed : ℕ) → reply ≡ no_space free needed → LacksForChoice choice old.last old.heap old.root free needed
+
+-- the same of the reply of the ending that was entered, if one was
+abbrev pub LacksByUnit : List ℕ → CoreState → CoreState → UnitEnd → Type 0
+LacksByUnit choice old new (More ticket) = Unit {0}
+LacksByUnit choice old new (Ended place) = (entry : Entry) → slice_get new.history place ≡ Some entry → LacksBy choice old entry.reply
+LacksByUnit choice old new Spent = Unit {0}
+
+-- What a unit of an open call made of its work, by how far that had come and comes now, and by its choice before and after.
+pub record WorksByUnit (opening : ℕ) (from to : Way) (was now : List ℕ) (old new : CoreState) (end : UnitEnd) : Type 0 where
+  pub more : IfMoreWorked opening from to was now old new end
+  pub choice : LeavesByUnit was now old new end
+  pub space : LacksByUnit was old new end

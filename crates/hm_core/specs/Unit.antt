@@ -3,6 +3,7 @@ use Rattle.std.specs.Prelude.{◌≡◌, ◌⊎◌, ℕ, ◌≤◌, ◌<◌, Lis
 use Rattle.std.specs.List.{Contains}
 use Rattle.hm_types.specs.Elements.{FullElement, IsDead}
 use Rattle.hm_types.specs.Space.{reserve_of}
+use Rattle.hm_types.specs.declared.zone.TheConstants.{TREE_ZONE}
 use Rattle.hm_btree.specs.Calls.Choice.{FindsNode}
 use Rattle.hm_btree.specs.Calls.Move.{Exchanges}
 use Rattle.hm_btree.specs.Tree.{told_elements}
@@ -11,7 +12,7 @@ use Rattle.hm_key.specs.Job.{ComesFurther, HasTouched, IfProgress, Place}
 use Rattle.hm_key.specs.declared.element.Element.{Element}
 use Rattle.hm_key.specs.declared.job.Progress.{Progress}
 use Rattle.hm_model.specs.Volume.{Volume}
-use Rattle.hm_reblock.specs.Choice.{NoneChosen, SomeChosen}
+use Rattle.hm_reblock.specs.Choice.{NoneChosen, SomeChosen, SomeChosenIn}
 use Rattle.hm_relocate.specs.Unit.{TurnsToNodes, Way}
 use Rattle.hm_step.specs.Pruned.{KeepsWithin}
 use Rattle.hm_stored.specs.Basis.{nodes}
@@ -117,6 +118,17 @@ pub record LacksRoom (h : Heap) (free needed : ℕ) : Type 0 where
   pub lacks : room_of h zone < reserve_of zone
   pub free_is : (free ≡ free_of h) × (free ≡ 0)
   pub needed_is : needed ≡ 1
+
+-- A reblock with this choice may have something to move from a zone: where a space holds a volume, this zone is that of nodes, or a payload
+-- that lies in the choice stands there.
+abbrev pub MayMoveFrom : ℕ → List ℕ → ℕ → Heap → ℕ → Type 0
+MayMoveFrom zone choice last h root = (volume : Volume) → HoldsVolume h root last volume
+    → (zone ≡ TREE_ZONE) ⊎ IsSomeAnd (tree_elements h root) (SomeChosenIn zone choice)
+
+-- A reblock lacks room for what it is to move: the zone that lacks its reserve is one from which it may move something.
+pub record LacksForChoice (choice : List ℕ) (last : ℕ) (h : Heap) (root free needed : ℕ) : Type 0 where
+  pub room : LacksRoom h free needed
+  pub moved : MayMoveFrom room.zone choice last h root
 
 -- at its end a prune left nothing that is dead for what it keeps
 abbrev pub EndsOver : OpenWork → ℕ → Heap → Heap → ℕ → ℕ → Type 0

@@ -1,5 +1,6 @@
 // The units of open calls of housekeeping, and their endings.
-ghost use Rattle.std.specs.Prelude.{◌≡◌, IfNone, IfOk};
+ghost use Rattle.std.specs.Prelude.{◌≡◌, IfErr, IfNone, IfOk, IfSome};
+ghost use Rattle.hm_types.specs.Space.{IfNoSpace};
 ghost use Rattle.hm_core.specs.Told.{reply_to_stop};
 
 use crate::calls::failure;
@@ -14,12 +15,13 @@ use hm_types::{FULL_GROUP_PAGES, GREATEST_ID, Id, SpaceFault};
 
 impl<D: Disk, I, O> Core<D, I, O> {
     ghost use Rattle.hm_core.specs.Core.{Follows, GoesOnOverEach, KeepsStreams, LeavesHeld};
-    ghost use Rattle.hm_core.specs.Jobs.{DoesUnit, DoesWork, GetsOnIfMore, HasWorked, IfMoreWorked};
-    ghost use Rattle.hm_core.specs.Jobs.{IsOpenJob, UnitKeepsLive, Units};
+    ghost use Rattle.hm_core.specs.Jobs.{DoesUnit, DoesWork, GetsOnIfMore, HasWorked, IsOpenJob, LacksBy};
+    ghost use Rattle.hm_core.specs.Jobs.{UnitKeepsLive, Units, WorksByUnit};
     ghost use Rattle.hm_core.specs.Live.{CallKeepsLive};
     ghost use Rattle.hm_core.specs.Running.{place_among};
-    ghost use Rattle.hm_core.specs.Chosen.{KeepOtherChoices, LeavesAt, LeavesBy, LeavesByUnit};
+    ghost use Rattle.hm_core.specs.Chosen.{KeepOtherChoices, LeavesAt, LeavesBy};
     ghost use Rattle.hm_core.specs.Seen.{choice_of, devices, progress_of, seen};
+    ghost use Rattle.hm_core.specs.Unit.{LacksForChoice};
 
     /// Does one unit of the call that a ticket names, which must be open; or makes one stage of a flush,
     /// where the group of changed pages is full. Nothing else is written than what that writes. There is
@@ -32,14 +34,14 @@ impl<D: Disk, I, O> Core<D, I, O> {
     /// of its opening; it has its place in the history. `Finished` tells that nothing is left that is
     /// dead for what a prune keeps, and that the choice of a reblock is empty. A unit or stage that fails
     /// ends the call too: its reply tells the fault, what that unit changed is dropped, and the units
-    /// before it stand. So does a unit of a reblock that needs a big-block where none is free: `NoSpace`.
+    /// before it stand. So does a unit of a reblock that needs a big-block where none is free: `NoSpace`. It
+    /// needs that in the zone of nodes or, where the space holds a volume, in one where a payload of its
+    /// choice stands.
     pub fn job_unit(&mut self, ticket: Ticket) -> UnitEnd
         requires runs { IsOpenJob ticket.opening.0 (seen self.old) }
         ensures units { Units ticket.opening.0 (seen self.old) (seen self.new) result }
-        ensures more { IfMoreWorked ticket.opening.0 (progress_of ticket.opening.0 self.old) (progress_of ticket.opening.0 self.new)
+        ensures work { WorksByUnit ticket.opening.0 (progress_of ticket.opening.0 self.old) (progress_of ticket.opening.0 self.new)
             (choice_of ticket.opening.0 self.old) (choice_of ticket.opening.0 self.new) (seen self.old) (seen self.new) result }
-        ensures choice { LeavesByUnit (choice_of ticket.opening.0 self.old) (choice_of ticket.opening.0 self.new)
-            (seen self.old) (seen self.new) result }
         ensures others { KeepOtherChoices ticket.opening.0 (λ id. choice_of id self.old) (λ id. choice_of id self.new)
             (seen self.old).running }
         ensures follows { Follows (D.left_since (devices self.old).disk) (D.left_since (devices self.new).disk)
@@ -85,6 +87,7 @@ impl<D: Disk, I, O> Core<D, I, O> {
             (choice_of opening.0 self.old) (choice_of opening.0 self.new) (seen self.old) (seen self.new)) }
         ensures choice { LeavesBy (choice_of opening.0 self.old) (choice_of opening.0 self.new)
             (seen self.old).heap (seen self.new).heap result }
+        ensures space { IfSome result (LacksBy (choice_of opening.0 self.old) (seen self.old)) }
         ensures others { KeepOtherChoices opening.0 (λ id. choice_of id self.old) (λ id. choice_of id self.new)
             (seen self.old).running }
         ensures follows { Follows (D.left_since (devices self.old).disk) (D.left_since (devices self.new).disk)
@@ -118,6 +121,8 @@ impl<D: Disk, I, O> Core<D, I, O> {
             (choice_of opening.0 self.old) (choice_of opening.0 self.new) (seen self.old) (seen self.new)) }
         ensures choice { IfOk result (LeavesAt (choice_of opening.0 self.old) (choice_of opening.0 self.new)
             (seen self.old).heap (seen self.new).heap) }
+        ensures space { IfErr result (IfNoSpace (LacksForChoice (choice_of opening.0 self.old) (seen self.old).last
+            (seen self.old).heap (seen self.old).root)) }
         ensures others { KeepOtherChoices opening.0 (λ id. choice_of id self.old) (λ id. choice_of id self.new)
             (seen self.old).running }
         ensures follows { Follows (D.left_since (devices self.old).disk) (D.left_since (devices self.new).disk)

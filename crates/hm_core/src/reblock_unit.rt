@@ -9,7 +9,7 @@ ghost use Rattle.hm_stored.specs.Turn.{IsClosed};
 ghost use Rattle.hm_state.specs.Volume.{HoldsVolume};
 ghost use Rattle.hm_core.specs.Chosen.{LeavesAt};
 ghost use Rattle.hm_core.specs.Crash.{LeavesNow};
-ghost use Rattle.hm_core.specs.Unit.{IfMoreMovesOn, LacksRoom, UnitLeaves};
+ghost use Rattle.hm_core.specs.Unit.{IfMoreMovesOn, LacksForChoice, UnitLeaves};
 
 use hm_disk::Disk;
 use hm_key::Progress;
@@ -21,7 +21,8 @@ use hm_types::{Fault, Id, SpaceFault};
 /// or drops it all where the device failed, memory was refused, no big-block was free, or the root of the tree
 /// would stand outside the pool: that is answered as want of memory. Each volume that the store held it holds
 /// still. A big-block leaves the choice only where a zone appends to it, or nothing is live in it, and at its
-/// end none is left. Where there is more to do it got on. What a crash within it may have left, one afterwards may.
+/// end none is left. Where there is more to do it got on. Room lacks only in the zone of nodes, or in one where
+/// a payload of the choice stands. What a crash within it may have left, one afterwards may.
 pub(crate) fn reblock_over<D: Disk>(
     stored: &mut Stored<D>,
     reblock: &mut Relocation,
@@ -41,7 +42,8 @@ pub(crate) fn reblock_over<D: Disk>(
     ensures cause { IfErr result (IsSpaceCaused (D.faults stored.old.space.disk) (D.faults stored.new.space.disk)) }
     ensures undamaged { (volume : Volume) → HoldsVolume (heap stored.old.space) stored.old.root last.0 volume →
         IfErr result IsSpaceUndamaged }
-    ensures space { IfErr result (IfNoSpace (LacksRoom (heap stored.old.space))) }
+    ensures space { IfErr result (IfNoSpace (LacksForChoice reblock.old.payloads.choice last.0
+        (heap stored.old.space) stored.old.root)) }
 {
     what_a_crash_leaves_over_calls::<D>();
     stored.begin(last);

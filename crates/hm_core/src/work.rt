@@ -11,7 +11,7 @@ ghost use Rattle.hm_core.specs.Chosen.{LeavesAt};
 ghost use Rattle.hm_core.specs.Crash.{LeavesNow};
 ghost use Rattle.hm_core.specs.Open.{ids_kept_by};
 ghost use Rattle.hm_core.specs.Running.{choice_of_work, open_work, way_of_work};
-ghost use Rattle.hm_core.specs.Unit.{EndsOver, IfMoreWorksOn, IsPruning, KeepsPaid, LacksFor, UnitLeaves};
+ghost use Rattle.hm_core.specs.Unit.{EndsOver, IfMoreWorksOn, IsPruning, KeepsPaid, LacksFor, LacksForChoice, UnitLeaves};
 
 use crate::reblock_unit::reblock_over;
 use crate::unit::unit_over;
@@ -34,7 +34,8 @@ pub enum Work {
 /// Does one unit of it over the store of a volume in which no call is open, and keeps what that changed, or
 /// drops it all where the unit stopped. Each volume that the store held it holds still, where the work
 /// keeps enough for it. Where a prune comes to its end nothing dead is left, and where there is more to do the
-/// work got on. What a crash within may have left, one afterwards may.
+/// work got on. A reblock lacks room only where something of its choice may have to move. What a crash within
+/// may have left, one afterwards may.
 pub(crate) fn work_over<D: Disk>(
     stored: &mut Stored<D>,
     work: &mut Work,
@@ -59,6 +60,8 @@ pub(crate) fn work_over<D: Disk>(
     ensures undamaged { (volume : Volume) → HoldsVolume (heap stored.old.space) stored.old.root last.0 volume →
         IfErr result IsSpaceUndamaged }
     ensures space { IfErr result (IfNoSpace (LacksFor (open_work work.old) (heap stored.old.space))) }
+    ensures moves { IfErr result (IfNoSpace (LacksForChoice (choice_of_work work.old) last.0
+        (heap stored.old.space) stored.old.root)) }
 {
     match work {
         Work::Prune(prune) => match unit_over(stored, prune, last) {

@@ -6,7 +6,7 @@ use Rattle.hm_types.specs.Space.{IfNoSpace}
 use Rattle.hm_pages.specs.Store.{contents}
 use Rattle.hm_relocate.specs.Way.{way_of}
 use Rattle.hm_stored.specs.Heap.{heap_of}
-use Rattle.hm_core.specs.Unit.{LacksRoom}
+use Rattle.hm_core.specs.Unit.{LacksForChoice}
 use Rattle.hm_core.proofs.ChoiceLemmas.{left_kept}
 use Rattle.hm_core.proofs.CrashLemmas.{leaves_around}
 use Rattle.hm_core.proofs.TurnLemmas.{balanced_begun, begun_some}
@@ -158,7 +158,8 @@ returns-in-Err g c =
           (heap_of (contents s3.space.pages.store) (g.D.Disk.told s3.space.disk) s3.space.books) s.root s1.root s2.root s3.root c.args.last.0
           (g.D.Disk.faults s.space.disk) (g.D.Disk.faults s3.space.disk) c.requires.closed s.space.kept c.begin.ensures.turn c.begin.ensures.root
           (ap (λ f. f.0) c.unit.ensures.frame) cause.counted.never_falls (IfErr c.unit.result IsSpaceUndamaged) cause.undamaged volume holds);
-      space = subst (λ r. IfErr r (IfNoSpace (LacksRoom (heap_of (contents s.space.pages.store) (g.D.Disk.told s.space.disk) s.space.books))))
+      space = subst (λ r. IfErr r (IfNoSpace (LacksForChoice c.args.reblock.now.payloads.choice c.args.last.0
+          (heap_of (contents s.space.pages.store) (g.D.Disk.told s.space.disk) s.space.books) s.root)))
           c.in-Err.is (lacks_begun (λ _. None) (heap_of (contents s.space.pages.store) (g.D.Disk.told s.space.disk) s.space.books)
           (heap_of (contents s1.space.pages.store) (g.D.Disk.told s1.space.disk) s1.space.books)
           (heap_of (contents s2.space.pages.store) (g.D.Disk.told s2.space.disk) s2.space.books)

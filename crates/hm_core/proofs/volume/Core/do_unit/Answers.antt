@@ -1,7 +1,8 @@
 -- A unit of an open call is done.
 use Rattle.std.proofs.Common.{ℕ, List, [], None, ap, false, length, refl, sym, subst, arith}
-use Rattle.std.specs.Prelude.{IfOk, slice_set, vec_capacity, vec_len}
+use Rattle.std.specs.Prelude.{IfErr, IfOk, slice_set, vec_capacity, vec_len}
 use Rattle.std.proofs.Math.Logic.{∥∥₁_map}
+use Rattle.hm_types.specs.Space.{IfNoSpace}
 use Rattle.hm_pages.specs.Store.{contents}
 use Rattle.hm_key.specs.Sweep.{place_from}
 use Rattle.hm_relocate.specs.Unit.{Way}
@@ -13,6 +14,7 @@ use Rattle.hm_core.specs.Open.{ids_kept_by}
 use Rattle.hm_core.specs.Running.{choice_of_work, open_job, open_jobs, open_work, way_of_work}
 use Rattle.hm_core.specs.Seen.{seen, spare_of}
 use Rattle.hm_core.specs.State.{OpenJob}
+use Rattle.hm_core.specs.Unit.{LacksForChoice}
 use Rattle.hm_core.proofs.CausedLemmas.{caused_later}
 use Rattle.hm_core.proofs.CountLemmas.{disk_later}
 use Rattle.hm_core.proofs.MovedLemmas.{moved_open, unit_pays}
@@ -99,6 +101,7 @@ returns g c =
       others = λ other differs there. told_others [] choice_of_work id s.running.items c.place_of-at.result r c.place_of-at.ensures
           c.index_mut.ensures.value c.requires.runs w other differs;
       choice = subst (λ (x : List ℕ × List ℕ). IfOk c.work_over-result.result (LeavesAt x.0 x.1 h h')) (λ i. (sym had i, sym has i)) made.choice;
+      space = subst (λ (x : List ℕ). IfErr c.work_over-result.result (IfNoSpace (LacksForChoice x s.last.0 h s.stored.root))) (sym had) made.moves;
       follows = kept_follows past since (seen s) h' t.root faults' id (open_job r) found c.core_is_sound.ensures made.leaves made.crashes
           (open_jobs worked) _ same room c.core_is_sound-2.ensures;
       uncounted = kept_uncounted past since (seen s) h' t.root faults' id (open_job r) found c.core_is_sound.ensures made.leaves made.crashes

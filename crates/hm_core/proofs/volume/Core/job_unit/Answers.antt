@@ -1,16 +1,20 @@
 -- A unit of an open call is done, and its ending is entered where one is due.
-use Rattle.std.proofs.Common.{◌≡◌, ◌+◌, List, length, refl, sym, ap, subst, ◌∙◌, arith}
+use Rattle.std.proofs.Common.{◌≡◌, ◌+◌, List, [], Some, length, refl, slice_get, sym, ap, subst, ◌∙◌, arith}
 use Rattle.std.specs.Prelude.{vec_capacity, vec_len}
 use Rattle.std.proofs.lemmas.List.{length-map}
 use Rattle.hm_model.specs.declared.command.Command.TheVariants.{End}
 use Rattle.hm_model.specs.declared.entry.Entry.{Entry}
+use Rattle.hm_model.specs.declared.reply.Reply.TheVariants.{Finished}
+use Rattle.hm_relocate.specs.Leaving.{LeavesChoice}
+use Rattle.hm_core.specs.Jobs.{LacksBy}
 use Rattle.hm_core.specs.Numbers.{numbers_told}
 use Rattle.hm_core.specs.Running.{open_job, open_jobs}
-use Rattle.hm_core.specs.Seen.{seen, spare_of}
+use Rattle.hm_core.specs.Seen.{choice_of, seen, spare_of}
 use Rattle.hm_core.specs.State.{Mounted, OpenJob, jobs_beside}
 use Rattle.hm_core.proofs.JobEndLemmas.{ended_follows, ended_known, ended_ordered, ends_job, found_before}
 use Rattle.hm_core.proofs.JobEndLemmas.{least_before, spent_caused, spent_follows, still_open}
 use Rattle.hm_core.proofs.NumberLemmas.{told_same}
+use Rattle.hm_core.proofs.RepliedLemmas.{entry_there}
 use Rattle.hm_core.proofs.RunningLemmas.{fewer_open, found_read, open_is, place_has}
 use Rattle.hm_core.proofs.StepLemmas.{entry_of, greatest_drawn}
 use Rattle.hm_core.proofs.volume.Core.job_unit.Goals as goal
@@ -138,6 +142,25 @@ returns-clause-units g c =
           (omega (arith, fewer, placed, same, many, all, others, c.push_reserved.ensures.len, c.push_reserved.ensures.capacity))
           (omega (arith, fewer, placed, same, c.push_reserved.ensures.len, c.push_reserved.ensures.capacity)),
     )
+
+pub returns-clause-work : goal.returns-clause-work
+returns-clause-work g c =
+    let s = c.args.self.now in
+    let m = c.work.new.self in
+    let id = c.args.ticket.opening in
+    let r = c.index-open.result.now in
+    let was = choice_of id.0 s in
+    let at = c.len-place.result in
+    let there : at ≡ length m.history.items = omega (arith, c.len-place.ensures, m.history.ok) in
+    let entry = entry_of (m.last.0 + 1) r.lane r.line (End id) c.in-Some.reply in
+    let entered : (found : Entry) → slice_get c.push_reserved.new.self.items at ≡ Some found → found ≡ entry = λ found is.
+    entry_there m.history.items entry found at there (subst (λ (l : List Entry). slice_get l at ≡ Some found) c.push_reserved.ensures.items is) in
+    record {
+      more = tt;
+      choice = λ found is. subst (λ (e : Entry). e.reply ≡ Finished → LeavesChoice (seen s).heap (seen m).heap was []) (sym (entered found is))
+          c.in-Some.ensures.choice;
+      space = λ found is. subst (λ (e : Entry). LacksBy was (seen s) e.reply) (sym (entered found is)) c.in-Some.ensures.space;
+    }
 
 pub returns-clause-follows : goal.returns-clause-follows
 returns-clause-follows g c =
