@@ -1,20 +1,18 @@
 -- What a unit of a job that was handed in leaves of a store, and what that tells as a call opens over it again.
-use Rattle.std.proofs.Common.{◌≡◌, inl, inr, ℕ, ◌+◌, ◌≤◌, Bool, true, false, List, [], ◌∷◌, Option, None, Some, refl, sym, ap, subst, ◌∙◌, arith, cond, map}
+use Rattle.std.proofs.Common.{◌≡◌, ℕ, ◌+◌, ◌≤◌, Bool, true, false, List, [], ◌∷◌, Option, None, Some, refl, sym, ap, subst, ◌∙◌, arith, cond, map}
 use Rattle.std.proofs.Common.{◌%◌, is_some, nat_eq, true≢false}
-use Rattle.std.specs.Prelude.{◌&&◌, ◌==◌, All, Err, IfErr, IfSome, IsSome, IsSomeAnd, IsTrue, Ok, OnSome, Result, count_by}
+use Rattle.std.specs.Prelude.{◌&&◌, Err, IfErr, IfSome, IsSome, IsSomeAnd, IsTrue, Ok, OnSome, Result, count_by}
 use Rattle.std.specs.List.{AllByRecursion}
 use Rattle.std.proofs.Math.Logic.{∥∥₁_elim}
 use Rattle.std.proofs.Props.{props}
 use Rattle.std.proofs.lemmas.Bool.{eqb-true}
 use Rattle.std.proofs.lemmas.List.Elements.{recursion_from_All}
-use Rattle.hm_types.specs.Elements.{FullElement, Key}
+use Rattle.hm_types.specs.Elements.{FullElement}
 use Rattle.hm_types.specs.Faults.{IsCaused, IsUndamaged}
-use Rattle.hm_types.specs.Layout.{IsPool, block_of}
-use Rattle.hm_types.specs.Offset.{byte_of, volume_of, zone_of}
+use Rattle.hm_types.specs.Offset.{byte_of, zone_of}
 use Rattle.hm_types.specs.References.{IsPlaced, Reference, unit_of}
 use Rattle.hm_types.specs.Space.{rounded}
 use Rattle.hm_types.specs.declared.fault.Fault.{Fault}
-use Rattle.hm_types.specs.declared.fault.Fault.TheVariants.{Damaged, Media, NoMemory}
 use Rattle.hm_types.specs.declared.limits.TheConstants.{PAGE_BYTES}
 use Rattle.hm_types.specs.declared.zone.TheConstants.{TREE_ZONE}
 use Rattle.hm_fields.specs.Pages.{PageMap}
@@ -32,17 +30,13 @@ use Rattle.hm_key.specs.declared.element.Element.{Element}
 use Rattle.hm_key.specs.declared.job.Progress.{Progress}
 use Rattle.hm_key.specs.declared.job.Progress.TheVariants.{Done, More}
 use Rattle.hm_cursor.specs.Told.{Lists}
-use Rattle.hm_flush.specs.Calls.{HasStageCause}
-use Rattle.hm_flush.specs.declared.stage.Stage.{Stage}
 use Rattle.hm_model.specs.Volume.{Volume}
-use Rattle.hm_pages.specs.Sets.{ChangeSet}
-use Rattle.hm_pages.specs.Store.{Frame as PagesFrame, Store}
 use Rattle.hm_search.specs.Tree.{elements_of}
-use Rattle.hm_stored.specs.Basis.{Basis, nodes}
+use Rattle.hm_stored.specs.Basis.{nodes}
 use Rattle.hm_stored.specs.Content.{HaveContent, KeepsContent, TellsContent}
 use Rattle.hm_stored.specs.Heap.{Frame, Heap, basis_with, begun_content, bytes_of, does_tell, extents_in, frame_of, pages_of, places_in, room_of}
-use Rattle.hm_stored.specs.Held.{HeldBy, IsKept, expected, uses_of}
-use Rattle.hm_stored.specs.Known.{AreKnown, is_known}
+use Rattle.hm_stored.specs.Held.{HeldBy, IsKept, uses_of}
+use Rattle.hm_stored.specs.Known.{AreKnown}
 use Rattle.hm_stored.specs.Log.{filled}
 use Rattle.hm_stored.specs.Standing.{Holds}
 use Rattle.hm_stored.specs.Turn.{IsClosed, IsDropped, IsKeepable, IsKeptOf, IsOpened}
@@ -51,10 +45,8 @@ use Rattle.hm_stored.proofs.KnownLemmas.{known_each, known_from_each}
 use Rattle.hm_stored.proofs.OpenedLemmas.{opens_content, told_held}
 use Rattle.hm_stored.proofs.SpotLemmas.{and_left}
 use Rattle.hm_state.specs.Volume.{HoldsVolume}
-use Rattle.hm_core.specs.Core.{Waits}
-use Rattle.hm_core.specs.Handed.{DoesHanded, Hands, HasKnown, IsAsBefore, KeepsKnown}
-use Rattle.hm_core.specs.Jobs.{FailsWith, IsFull}
-use Rattle.hm_core.specs.Staged.{FailsStage, KeepsTree, MakesStage}
+use Rattle.hm_core.specs.Handed.{HasKnown, IsAsBefore, KeepsKnown}
+use Rattle.hm_core.specs.Jobs.{FailsWith}
 use Rattle.hm_core.specs.State.{CoreState}
 use Rattle.hm_core.proofs.ExtentLemmas.{only_extents}
 use Rattle.hm_core.proofs.TurnLemmas.{begun_there, kept_closed, room_same}
@@ -388,24 +380,3 @@ pub fails_with : {A : Type 0} (old new : CoreState) (result : Result A Fault) �
     → ((volume : Volume) → HoldsVolume old.heap old.root old.last volume → IfErr result IsUndamaged) → IfErr result (FailsWith old new)
 fails_with old new (Ok x) caused undamaged = tt
 fails_with old new (Err fault) caused undamaged = record { caused = caused; undamaged = undamaged }
-
--- and why a stage did
-pub stage_fails_with : (old new : CoreState) (fault : Fault) → HasStageCause {T = Stage} old.flush.at old.counts.disk new.counts.disk (Err fault)
-    → FailsWith old new fault
-stage_fails_with old new (Media before after) cause = record { caused = cause.counted.caused; undamaged = λ volume holds. tt }
-stage_fails_with old new (Damaged here kind) cause = absurd cause.faults
-stage_fails_with old new NoMemory cause = record { caused = tt; undamaged = λ volume holds. tt }
-
--- what a unit came to, or the stage in its place
-module _ (old new : CoreState) where
-  pub stage_hands : IsFull old → MakesStage old new → KeepsTree old new → Hands old new (Ok More)
-  stage_hands full makes tree = record { waits = makes.waits; does = inl (full, makes, tree); fails = tt }
-
-  pub failed_stage_hands : IsFull old → (fault : Fault) → FailsStage old new → KeepsTree old new
-      → HasStageCause {T = Stage} old.flush.at old.counts.disk new.counts.disk (Err fault) → Hands old new (Err fault)
-  failed_stage_hands full fault fails tree cause =
-      record { waits = fails.waits; does = inl (full, fails, tree); fails = stage_fails_with old new fault cause }
-
-  pub unit_hands : ¬ IsFull old → (result : Result Progress Fault) → Waits old new → DoesHanded old new result → IfErr result (FailsWith old new)
-      → Hands old new result
-  unit_hands small result waits does fails = record { waits = waits; does = inr (small, does); fails = fails }
