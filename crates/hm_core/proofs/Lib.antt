@@ -33,6 +33,8 @@ pub mod AnswerLemmas
 pub mod ChoiceLemmas
 pub mod LackLemmas
 pub mod UnitLemmas
+pub mod ExtentLemmas
+pub mod HandedLemmas
 pub mod PropLemmas
 pub mod StepLemmas
 pub mod EndedLemmas

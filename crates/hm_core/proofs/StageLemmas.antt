@@ -18,6 +18,7 @@ use Rattle.hm_flush.specs.Ends.{StageTells, as_read}
 use Rattle.hm_flush.specs.Flush.{tried, tried_at}
 use Rattle.hm_flush.specs.Group.{group_of}
 use Rattle.hm_flush.proofs.ReadLemmas.{read-on}
+use Rattle.hm_pages.specs.Store.{Store}
 use Rattle.hm_model.specs.After.{Event}
 use Rattle.hm_model.specs.Caused.{Counts, known_after, known_at}
 use Rattle.hm_model.specs.Foreign.{Foreigners}
@@ -42,7 +43,7 @@ use Rattle.hm_core.specs.History.{setting_of, up_to, volume_of}
 use Rattle.hm_core.specs.Inside.{IsInOrder}
 use Rattle.hm_core.specs.Ledger.{IsPaid, calls_in}
 use Rattle.hm_core.specs.Live.{StageKeepsLive}
-use Rattle.hm_core.specs.Staged.{header_now}
+use Rattle.hm_core.specs.Staged.{KeepsTree, header_now}
 use Rattle.hm_core.specs.State.{CoreState}
 use Rattle.hm_core.proofs.CoreLemmas.{goes_on_by_none}
 use Rattle.hm_core.proofs.CountLemmas.{later_still, legal_later}
@@ -341,3 +342,17 @@ module _ (core : CoreState) (f' : Flush) (h' : Heap) (counts : Counts) (result :
       sound = sound;
       goes_on = stage_goes_on;
     }
+
+-- a stage leaves the tree where it was, its pages, and where zones append
+pub stage_tree : (core : CoreState) (f' : Flush) (h' : Heap) (result : Result Stage Fault)
+    → FlushesSpace (header_now core) core.flush f' core.heap h' result → (counts : Counts) (boundary root : ℕ) → root ≡ core.root
+    → KeepsTree core (record core { boundary = boundary; counts = counts; flush = f'; heap = h'; root = root })
+stage_tree core f' h' result flushes counts boundary root same = record {
+  root = same;
+  pages = by (course (header_now core) core.flush f' core.heap h' result flushes);
+  append = ap (λ (h : Heap). h.append) flushes.rest;
+} where
+  by : Course (header_now core) core.flush f' core.heap h' result → h'.pages.current ≡ core.heap.pages.current
+  by (stays s) = ap (λ (p : Store). p.current) s.pages
+  by (freezes s) = s.pages.current
+  by (commits s) = s.pages.current

@@ -1,15 +1,16 @@
--- A core follows itself over a unit of one of its open prunes, and what a crash within may leave.
+-- A core follows itself over a unit of a job that keeps enough, and what a crash within may leave.
 use Rattle.std.proofs.Common.{◌≡◌, ℕ, List, [], append-nil, length, refl, sym, subst, ◌∙◌, arith, Some}
 use Rattle.std.specs.Prelude.{IsFalse, Option}
 use Rattle.std.specs.List.{list_any}
 use Rattle.hm_disk.specs.Moments.{LeftSince}
 use Rattle.hm_flush.specs.declared.flush.Flush.{Flush}
 use Rattle.hm_flush.specs.Flush.{tried}
-use Rattle.hm_model.specs.After.{Event}
+use Rattle.hm_model.specs.After.{Event, State}
 use Rattle.hm_model.specs.Foreign.{Foreigners}
 use Rattle.hm_model.specs.Volume.{Volume}
 use Rattle.hm_model.specs.declared.entry.Entry.{Entry}
 use Rattle.hm_model.specs.Needs.{moved_space}
+use Rattle.hm_step.specs.Pruned.{KeepsWithin}
 use Rattle.hm_stored.specs.Heap.{Heap, free_of, room_of}
 use Rattle.hm_core.specs.Core.{Follows, GoesOnOverEach, IsGuarded, IsSoundCore, LeavesHeld, StandsOver}
 use Rattle.hm_core.specs.Counts.{with_disk}
@@ -17,7 +18,7 @@ use Rattle.hm_core.specs.Crash.{IsBetween, IsLeftBoundary, LeavesNow, LeavesPref
 use Rattle.hm_core.specs.History.{IsLegalOver}
 use Rattle.hm_core.specs.Inside.{IsInOrder}
 use Rattle.hm_core.specs.Ledger.{IsPaid}
-use Rattle.hm_core.specs.Open.{ids_kept_by}
+use Rattle.hm_core.specs.Open.{AreOpen, ids_kept_by}
 use Rattle.hm_core.specs.State.{CoreState, OpenJob, job_with}
 use Rattle.hm_core.specs.Unit.{UnitLeaves}
 use Rattle.hm_core.proofs.CoreLemmas.{goes_on_by_none}
@@ -25,12 +26,11 @@ use Rattle.hm_core.proofs.CountLemmas.{disk_later}
 use Rattle.hm_core.proofs.CrashLemmas.{leaves_weaker}
 use Rattle.hm_core.proofs.HeldLemmas.{guarded_still, held_still, read_still}
 use Rattle.hm_core.proofs.StepLemmas.{group_same}
-use Rattle.hm_core.proofs.UnitLemmas.{uncounted, unit_legal}
+use Rattle.hm_core.proofs.UnitLemmas.{open_enough, uncounted, unit_legal}
 
-module _ (past since : LeftSince) (core : CoreState) (h' : Heap) (root' faults' id : ℕ) (p : OpenJob)
-    (found : job_with id core.running ≡ Some p) (begun : IsSoundCore core) (leaves : UnitLeaves (ids_kept_by p.work) core.counts.disk faults' core.last
-    core.heap h' core.root root')
-    (crash : LeavesNow past since h'.disk) where
+module _ (past since : LeftSince) (core : CoreState) (h' : Heap) (root' faults' : ℕ) (ids : ℕ → Option (List (ℕ × ℕ)))
+    (enough : (state : State) → AreOpen core.running state → KeepsWithin ids state.volume) (begun : IsSoundCore core)
+    (leaves : UnitLeaves ids core.counts.disk faults' core.last core.heap h' core.root root') (crash : LeavesNow past since h'.disk) where
   abbrev after : CoreState
   after = record core { heap = h'; root = root'; counts = with_disk core.counts faults' }
 
@@ -41,8 +41,8 @@ module _ (past since : LeftSince) (core : CoreState) (h' : Heap) (root' faults' 
           IsLegalOver core.mounted.free core.mounted.counts (with_disk core.counts faults) core.history h' root' core.last core.running opening foreigners
           events
 
-      legal_with : (faults : ℕ) → UnitLeaves (ids_kept_by p.work) core.counts.disk faults core.last core.heap h' core.root root' → LegalWith faults
-      legal_with faults leaves = unit_legal id p core.counts.disk faults core.last core.heap h' core.root root' core.running found leaves core.mounted.free
+      legal_with : (faults : ℕ) → UnitLeaves ids core.counts.disk faults core.last core.heap h' core.root root' → LegalWith faults
+      legal_with faults leaves = unit_legal ids core.counts.disk faults core.last core.heap h' core.root root' core.running enough leaves core.mounted.free
           core.mounted.counts core.counts core.history opening foreigners events stands.legal
 
       held : IsGuarded core opening foreigners events → LeavesPrefixes past since (IsLeftBoundary (tried core.flush)) opening foreigners events
@@ -58,7 +58,7 @@ module _ (past since : LeftSince) (core : CoreState) (h' : Heap) (root' faults' 
           begun.between (λ boundary mine. refl) (held was)
 
     -- by any count of faults by which the history is legal
-    goes_on_with : (faults : ℕ) → UnitLeaves (ids_kept_by p.work) core.counts.disk faults core.last core.heap h' core.root root'
+    goes_on_with : (faults : ℕ) → UnitLeaves ids core.counts.disk faults core.last core.heap h' core.root root'
         → GoesOnOverEach past since core (record after { counts = with_disk core.counts faults })
     goes_on_with faults leaves opening foreigners events stands =
         goes_on_by_none past since core (record after { counts = with_disk core.counts faults }) opening foreigners events (record {
@@ -73,7 +73,7 @@ module _ (past since : LeftSince) (core : CoreState) (h' : Heap) (root' faults' 
     pub unit_uncounted : GoesOnOverEach past since core (record after { counts = core.counts })
     unit_uncounted =
         goes_on_with core.counts.disk
-        (uncounted (ids_kept_by p.work) core.counts.disk faults' core.last core.heap h' core.root root' leaves)
+        (uncounted ids core.counts.disk faults' core.last core.heap h' core.root root' leaves)
 
     pub unit_follows : Follows past since core after
     unit_follows = record {
@@ -111,7 +111,7 @@ pub same_core : (core : CoreState) (running : List OpenJob) (spare : ℕ) → ru
     → record core { running = running; spare = spare } ≡ core
 same_core core running spare same room = λ i. record core { running = same i; spare = room i }
 
--- the core after it, with its open calls as they are kept
+-- the core after a unit of one of its open calls, with these as they are kept
 module _ (past since : LeftSince) (core : CoreState) (h' : Heap) (root' faults' id : ℕ) (p : OpenJob) (found : job_with id core.running ≡ Some p)
     (begun : IsSoundCore core) (leaves : UnitLeaves (ids_kept_by p.work) core.counts.disk faults' core.last core.heap h' core.root root')
     (crash : LeavesNow past since h'.disk) (running' : List OpenJob) (spare' : ℕ) (same : running' ≡ core.running) (room : spare' ≡ core.spare) where
@@ -121,6 +121,9 @@ module _ (past since : LeftSince) (core : CoreState) (h' : Heap) (root' faults' 
   abbrev new : CoreState
   new = record plain { running = running'; spare = spare' }
 
+  enough : (state : State) → AreOpen core.running state → KeepsWithin (ids_kept_by p.work) state.volume
+  enough = open_enough id p core.running found
+
   moved : (P : CoreState → Type 0) → P plain → P new
   moved P = subst P (sym (same_core plain running' spare' same room))
 
@@ -129,11 +132,11 @@ module _ (past since : LeftSince) (core : CoreState) (h' : Heap) (root' faults' 
     back = subst IsSoundCore (same_core plain running' spare' same room) ended
 
     pub kept_follows : Follows past since core new
-    kept_follows = moved (λ c. Follows past since core c) (unit_follows past since core h' root' faults' id p found begun leaves crash back)
+    kept_follows = moved (λ c. Follows past since core c) (unit_follows past since core h' root' faults' (ids_kept_by p.work) enough begun leaves crash back)
 
     pub kept_uncounted : GoesOnOverEach past since core (record new { counts = core.counts })
     kept_uncounted = moved (λ c. GoesOnOverEach past since core (record c { counts = core.counts }))
-        (unit_uncounted past since core h' root' faults' id p found begun leaves crash back)
+        (unit_uncounted past since core h' root' faults' (ids_kept_by p.work) enough begun leaves crash back)
 
     pub kept_leaves_held : LeavesHeld past since core
-    kept_leaves_held = unit_leaves_held past since core h' root' faults' id p found begun leaves crash back
+    kept_leaves_held = unit_leaves_held past since core h' root' faults' (ids_kept_by p.work) enough begun leaves crash back

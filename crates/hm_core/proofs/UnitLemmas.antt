@@ -23,7 +23,7 @@ use Rattle.hm_key.specs.declared.element.Element.{Element}
 use Rattle.hm_key.specs.declared.job.Progress.{Progress}
 use Rattle.hm_key.specs.declared.job.Progress.TheVariants.{Done, More}
 use Rattle.hm_cursor.specs.Told.{Lists, fulls}
-use Rattle.hm_model.specs.After.{Event}
+use Rattle.hm_model.specs.After.{Event, State}
 use Rattle.hm_model.specs.Caused.{Counts, known_after, known_at}
 use Rattle.hm_model.specs.Foreign.{Foreigners}
 use Rattle.hm_model.specs.Volume.{Volume}
@@ -44,8 +44,7 @@ use Rattle.hm_state.specs.Volume.{HoldsVolume}
 use Rattle.hm_core.specs.Counts.{with_disk}
 use Rattle.hm_core.specs.History.{IsLegalOver, setting_of}
 use Rattle.hm_core.specs.Ledger.{IsPaid}
-use Rattle.hm_core.specs.Open.{IsOpenIn}
-use Rattle.hm_core.specs.Open.{ids_kept_by}
+use Rattle.hm_core.specs.Open.{AreOpen, IsOpenIn, ids_kept_by}
 use Rattle.hm_core.specs.State.{OpenJob, job_with}
 use Rattle.hm_core.specs.Told.{ArePages}
 use Rattle.hm_core.specs.Unit.{ClearsChoice, MayMoveFrom, IfMoreGetsOn, IfMoreMovesOn, KeepsPaid, LacksForChoice, LeavesNoneDead, NoneDeadIn}
@@ -117,7 +116,7 @@ if_more None step is = tt
 if_more (Some x) step is = step x is
 
 -- a space that tells its elements and extents tells its nodes
-does_tell_lists : (h : Heap) (root : ℕ) (P : Lists → Type 0) → IsSomeAnd (content_of (told_elements true (pages_of h) root) (extents_in h)) P
+pub does_tell_lists : (h : Heap) (root : ℕ) (P : Lists → Type 0) → IsSomeAnd (content_of (told_elements true (pages_of h) root) (extents_in h)) P
     → does_tell h ≡ true
 does_tell_lists h root P = by (does_tell h) refl where
   by : (t : Bool) → does_tell h ≡ t → IsSomeAnd (content_of (told_elements true (cond t (Some (nodes h.pages.current)) None) root) (extents_in h)) P
@@ -129,7 +128,7 @@ pages_told : (h : Heap) → does_tell h ≡ true → pages_of h ≡ Some (nodes 
 pages_told h tells = ap (λ (t : Bool). cond t (Some (nodes h.pages.current)) None) tells
 
 -- and so it does where none of its changes failed, and what it began with is the same
-tells_still : (old new : Heap) → new.whole ≡ true → begun_content new ≡ begun_content old → does_tell old ≡ true → does_tell new ≡ true
+pub tells_still : (old new : Heap) → new.whole ≡ true → begun_content new ≡ begun_content old → does_tell old ≡ true → does_tell new ≡ true
 tells_still old new whole same tells =
     ap (λ (t : Bool). t && is_some (begun_content new)) whole
     ∙ (ap (λ (o : Option (List FullElement)). is_some o) same ∙ right old.whole (is_some (begun_content old)) tells) where
@@ -370,21 +369,23 @@ uncounted ids faults faults' last h h' root root' leaves = record {
   live = leaves.live;
 }
 
--- a history that was legal over a space stays so over what a unit of one of its open calls leaves
-pub unit_legal : (id : ℕ) (p : OpenJob) (faults faults' last : ℕ) (h h' : Heap) (root root' : ℕ) (running : List OpenJob)
-    → job_with id running ≡ Some p → UnitLeaves (ids_kept_by p.work) faults faults' last h h' root root'
+-- what is open in a state is enough for its volume
+pub open_enough : (id : ℕ) (p : OpenJob) (running : List OpenJob) → job_with id running ≡ Some p → (state : State) → AreOpen running state
+    → KeepsWithin (ids_kept_by p.work) state.volume
+open_enough id p running found state opened = (found_has (IsOpenIn state) id running p found opened.each).has.enough.within
+
+-- a history that was legal over a space stays so over what a unit leaves of a job that keeps enough
+pub unit_legal : (ids : ℕ → Option (List (ℕ × ℕ))) (faults faults' last : ℕ) (h h' : Heap) (root root' : ℕ) (running : List OpenJob)
+    → ((state : State) → AreOpen running state → KeepsWithin ids state.volume) → UnitLeaves ids faults faults' last h h' root root'
     → (free : ℕ) (start counts : Counts) (history : List Entry)
     (opening : Volume) (foreigners : Foreigners) (events : List Event)
     → IsLegalOver free start (with_disk counts faults) history h root last running opening foreigners events
     → IsLegalOver free start (with_disk counts faults') history h' root' last running opening foreigners events
-unit_legal id p faults faults' last h h' root root' running found leaves free start counts history opening foreigners events is =
+unit_legal ids faults faults' last h h' root root' running enough leaves free start counts history opening foreigners events is =
     let later = disk_later counts faults faults' leaves.counted in
     record {
       entries = is.entries;
       legal = legal_later (setting_of free start (with_disk counts faults) opening foreigners) (with_disk counts faults') events later is.legal;
       counted = later_still (known_after (known_at opening.last start) events).counts (with_disk counts faults) (with_disk counts faults') is.counted later;
-      held = record {
-        holds = leaves.volume _ (found_has (IsOpenIn _) id running p found is.held.opened.each).has.enough.within is.held.holds;
-        opened = is.held.opened;
-      };
+      held = record { holds = leaves.volume _ (enough _ is.held.opened) is.held.holds; opened = is.held.opened };
     }

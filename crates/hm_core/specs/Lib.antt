@@ -20,6 +20,7 @@ pub mod Crash
 pub mod Core
 pub mod Staged
 pub mod Jobs
+pub mod Handed
 pub mod Opened
 pub mod Mounting
 pub mod Finished

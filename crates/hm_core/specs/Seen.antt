@@ -2,6 +2,7 @@
 use Rattle.std.specs.Prelude.{ℕ, ◌-◌, List, length, vec_capacity, vec_len}
 use Rattle.hm_disk.specs.declared.disk.Disk.{Ghosts}
 use Rattle.hm_stored.specs.Space.{heap as heap_of_space}
+use Rattle.hm_stored.specs.declared.stored.Stored.{Stored}
 use Rattle.hm_core.specs.Counts.{disk_counts}
 use Rattle.hm_relocate.specs.Unit.{Way}
 use Rattle.hm_core.specs.Running.{choice_among, open_jobs, way_among}
@@ -29,6 +30,10 @@ seen {g = g} c = record {
 -- what it is over
 abbrev pub devices : {D I O : Type 0} {g : Ghosts D} → Core D I O g → CoreDevices D I O
 devices c = record { disk = c.stored.space.disk; input = c.input; output = c.output }
+
+-- its store
+abbrev pub store_in : {D I O : Type 0} {g : Ghosts D} → Core D I O g → Stored D g
+store_in c = c.stored
 
 -- how far the call came that was opened with an id
 abbrev pub progress_of : {D I O : Type 0} {g : Ghosts D} → ℕ → Core D I O g → Way

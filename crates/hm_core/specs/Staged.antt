@@ -32,6 +32,12 @@ pub record FailsStage (old new : CoreState) : Type 0 where
   pub failed : StageFails old.flush new.flush old.heap.pages new.heap.pages
   pub waits : Waits old new
 
+-- where the tree begins, its pages, and where zones append are as before
+pub record KeepsTree (old new : CoreState) : Type 0 where
+  pub root : new.root ≡ old.root
+  pub pages : new.heap.pages.current ≡ old.heap.pages.current
+  pub append : new.heap.append ≡ old.heap.append
+
 -- what a stage made of a core, by its result
 abbrev pub IsStaged : CoreState → CoreState → Result Stage Fault → Type 0
 IsStaged old new (Ok stage) = MakesStage old new

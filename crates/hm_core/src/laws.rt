@@ -7,6 +7,7 @@ ghost use Rattle.hm_types.specs.declared.fault.Fault.{Fault};
 ghost use Rattle.hm_types.specs.declared.id.Id.{Id};
 ghost use Rattle.hm_types.specs.declared.limits.TheConstants.{BIGBLOCK_BYTES, GREATEST_ID};
 ghost use Rattle.hm_btree.specs.Tree.{HoldsTree, told_elements};
+ghost use Rattle.hm_key.specs.Balance.{Balanced};
 ghost use Rattle.hm_key.specs.Charges.{Charges};
 ghost use Rattle.hm_key.specs.Extents.{Extent};
 ghost use Rattle.hm_key.specs.Versions.{IsBelow};
@@ -36,22 +37,28 @@ ghost use Rattle.hm_stored.specs.Known.{AreKnown, is_known};
 ghost use Rattle.hm_stored.specs.Standing.{Holds};
 ghost use Rattle.hm_stored.specs.Told.{elements_told};
 ghost use Rattle.hm_stored.specs.Turn.{IsClosed};
+ghost use Rattle.hm_stored.specs.declared.stored.Stored.{Stored};
 ghost use Rattle.hm_core.specs.Answer.{led_work, running_after};
 ghost use Rattle.hm_core.specs.Calls.{Fails, IsNextCall, Serves};
 ghost use Rattle.hm_core.specs.Core.{Follows, IsSoundCore};
 ghost use Rattle.hm_core.specs.Counts.{AreLater};
+ghost use Rattle.hm_core.specs.Handed.{BeginsAs};
 ghost use Rattle.hm_core.specs.History.{IsLegalBeyond, IsLegalOver, setting_of, up_to, volume_of};
 ghost use Rattle.hm_core.specs.Inside.{AreDrawnBy, AreUpTo};
 ghost use Rattle.hm_core.specs.Ledger.{IsPaid};
 ghost use Rattle.hm_core.specs.Numbers.{numbers_told};
 ghost use Rattle.hm_core.specs.Replied.{IsReplied, free_now};
+ghost use Rattle.hm_core.specs.Seen.{seen, store_in};
 ghost use Rattle.hm_core.specs.Served.{IsServed, IsSync};
 ghost use Rattle.hm_core.specs.State.{CoreState, OpenJob};
 ghost use Rattle.hm_core.specs.Told.{ArePages, HoldsSame, HoldsTold, OpensStore, TellsFailure, TellsHeld, TellsSpace, reply_to};
+ghost use Rattle.hm_core.specs.declared.volume.Core.{Core};
 ghost use Rattle.hm_state.specs.Volume.{HoldsVolume};
 
+use crate::volume::Core;
 use hm_disk::Disk;
-use hm_key::{ElementStore, Extents};
+use hm_key::{ElementStore, Extents, HasElements, HasRoom};
+use hm_stored::Stored;
 
 /// A core follows itself, and what a core that it follows followed.
 pub fn a_core_follows_what_it_followed_before<D: Disk>()
@@ -270,4 +277,12 @@ pub fn told_numbers_are_used()
     ensures { (free : ℕ) (start counts : Counts) (opening : Volume) (foreigners : Foreigners)
         (events : List Event) → IsLegal (setting_of free start counts opening foreigners) events →
         UsedBelow (numbers_told (entries_of events)) (volume_of opening foreigners events) }
+{}
+
+/// As a call opens over the store of a core, what that tells is balanced: the payload of each element stands
+/// in a live extent of its length, which has as many references as elements refer to it. So a job that asks
+/// no more of a store than this fits that of each core.
+pub fn the_store_of_a_core_opens_balanced<D: Disk, I, O>()
+    ensures { (core : Core D I O D.Disk) (s : Stored D D.Disk) → BeginsAs (seen core).last (store_in core) s →
+        Balanced (⟦<Stored<D> as HasElements>⟧.elements s) (⟦<Stored<D> as HasRoom>⟧.extents s) }
 {}

@@ -3,6 +3,8 @@
 
 mod asked;
 mod calls;
+mod handed;
+mod handed_unit;
 mod jobs;
 pub mod laws;
 mod making;

@@ -286,7 +286,7 @@ impl<D: Disk, I, O> Core<D, I, O> {
     ghost use Rattle.hm_core.specs.Chosen.{KeepChoices};
     ghost use Rattle.hm_core.specs.Seen.{choice_of, devices, seen};
     ghost use Rattle.hm_core.specs.Served.{IsAsked};
-    ghost use Rattle.hm_core.specs.Staged.{EndsBy, IsFlushed, IsStaged, Settles, Stages, header_now};
+    ghost use Rattle.hm_core.specs.Staged.{EndsBy, IsFlushed, IsStaged, KeepsTree, Settles, Stages, header_now};
 
     /// Makes one stage of a flush for a call that waits for it. Where none is in flight, one begins with
     /// the state of now. A stage that fails changes nothing but its own range of the disk, and is made
@@ -356,6 +356,7 @@ impl<D: Disk, I, O> Core<D, I, O> {
     pub(crate) fn make_stage(&mut self) -> Result<Stage, Fault>
         ensures stage { IsStaged (seen self.old) (seen self.new) result }
         ensures running { self.new.running ≡ self.old.running }
+        ensures tree { KeepsTree (seen self.old) (seen self.new) }
         ensures follows { Follows (D.left_since (devices self.old).disk) (D.left_since (devices self.new).disk)
             (seen self.old) (seen self.new) }
         ensures uncounted { GoesOnOverEach (D.left_since (devices self.old).disk) (D.left_since (devices self.new).disk)

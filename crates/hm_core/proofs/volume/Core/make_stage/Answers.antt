@@ -10,7 +10,7 @@ use Rattle.hm_core.specs.Seen.{seen}
 use Rattle.hm_core.proofs.CausedLemmas.{caused_later}
 use Rattle.hm_core.proofs.CountLemmas.{disk_later, later_same}
 use Rattle.hm_core.proofs.EndLemmas.{stage_settles}
-use Rattle.hm_core.proofs.StageLemmas.{IsLeftBy, ordered_staged, stage_follows, stage_goes_on, stage_leaves, stage_live}
+use Rattle.hm_core.proofs.StageLemmas.{IsLeftBy, ordered_staged, stage_follows, stage_goes_on, stage_leaves, stage_live, stage_tree}
 use Rattle.hm_core.proofs.StepLemmas.{flushed_now}
 use Rattle.hm_core.proofs.volume.Core.make_stage.Goals as goal
 
@@ -59,6 +59,7 @@ returns g c =
     record {
       stage = search rules;
       running = refl;
+      tree = stage_tree (seen s) f' h' result flushes _ _ t.root made.root;
       follows = stage_follows (seen s) f' h' counts result past since flushes made.disk left later s.ordered refl t.root made.root c.core_is_sound.ensures;
       uncounted = stage_goes_on (seen s) f' h' (seen s).counts result past since flushes made.disk left (later_same (seen s).counts) s.ordered refl t.root
           made.root;
