@@ -9,6 +9,10 @@ mod asks;
 #[cfg(test)]
 mod between;
 #[cfg(test)]
+mod count;
+#[cfg(test)]
+mod count_tests;
+#[cfg(test)]
 mod crash_tests;
 #[cfg(test)]
 mod crashes;

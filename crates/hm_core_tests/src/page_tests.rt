@@ -1,9 +1,11 @@
 // How many pages change before a call waits, to the page, also while a flush is in flight.
 use crate::asks::Ask;
+use crate::count::{Count, counted};
 use crate::test_disk::TestDisk;
 use crate::volume::{
     Came, OTHER_STAGES, Volume, answered, do_all, ended, finished, made, mounted, try_since,
 };
+use hm_key::Progress;
 use hm_model::Reply;
 use hm_types::NoMemory;
 use std::alloc::Global;
@@ -128,11 +130,32 @@ fn waits_from_1025(
     panic!(rt; "none changes two pages")
 }
 
+// After so many of the first calls a unit of a job that is handed in makes a stage, and the job is as before. The next one
+// is a unit: the pages that changed are frozen.
+fn makes_stage_first(
+    rt: &impl Abort,
+    alloc: Global,
+    disk: &TestDisk,
+    calls: u32,
+) -> Result<(), NoMemory> {
+    let mut core = mounted(rt, alloc, disk.copy(alloc)?);
+    do_calls(rt, alloc, &mut core, calls)?;
+    let mut count = Count::new();
+    assert_eq!(rt; counted(rt, &mut core, &mut count), Progress::More);
+    assert_eq!(rt; count.found, 0);
+    assert_eq!(rt; counted(rt, &mut core, &mut count), Progress::More);
+    assert_eq!(rt; count.found, 1);
+    let (left, _) = ended(rt, &mut core);
+    assert_eq!(rt; left.saturating_add(1), stages_of(1_024));
+    Ok(())
+}
+
 #[test]
 fn a_call_waits_from_1024_changed_pages_on(rt: HostRuntime) -> Result<(), Fail> {
     let alloc = rt.alloc();
     let disk = prepared(&rt, alloc)?;
     let calls = waits_twice(&rt, alloc, &disk)?;
     waits_from_1025(&rt, alloc, &disk, calls)?;
+    makes_stage_first(&rt, alloc, &disk, calls)?;
     Ok(())
 }
