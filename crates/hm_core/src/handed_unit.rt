@@ -20,11 +20,14 @@ impl<D: Disk, I, O> Core<D, I, O> {
 
     /// Does one unit of a job that is handed in, which must fit the store as a call opens over it, tell no
     /// intervals and not place; or makes one stage of a flush, where the group of changed pages is full,
-    /// and answers More. Nothing is entered, and what the volume holds stays. After a unit the job goes, or
-    /// ends, where the store told its content; it does so of the store as a call opens over it again.
+    /// and answers More with the job as it was. Nothing is entered, and what the volume holds stays. After
+    /// More the job goes, and after Done it ends, of the store as a call opens over it again, where that
+    /// told its content before the unit, or tells none after it.
     ///
-    /// After an error what the unit changed is dropped: `Media` where the device failed, `Damaged` where
-    /// the disk holds no volume, and `NoMemory`.
+    /// After an error what the unit changed is dropped, and the job is at the start of the unit, where the
+    /// store told its content. `Media` tells that the device failed; `Damaged`, which comes only where the
+    /// disk holds no volume, that what it holds is damaged; and `NoMemory` that memory was refused, or over
+    /// such a disk that the root of the tree would stand outside the pool. A stage that fails is due again.
     pub fn unit_of<J: Job<Stored<D>>>(&mut self, job: &mut J) -> Result<Progress, Fault>
         requires fits { AsOpened (seen self.old).last (J.fits job.old) (store_in self.old) }
         requires kept { (pfs : ℕ) → J.kept job.old pfs ≡ None }
