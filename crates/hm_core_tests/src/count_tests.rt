@@ -45,9 +45,9 @@ fn a_count_that_is_handed_in_finds_each_element(rt: HostRuntime) -> Result<(), F
     let first = count_of(&rt, alloc, &mut core)?;
     do_all(&rt, alloc, &mut core, &[Ask::Touch(3)])?;
     // The inode and the entry of the file.
-    assert_eq!(rt; count_of(&rt, alloc, &mut core)?, first + 2);
+    assert_eq!(rt; count_of(&rt, alloc, &mut core)?, first.saturating_add(2));
     let mut disk = finished(&rt, core);
     let elements = elements_on(&rt, alloc, &mut disk)?;
-    assert_eq!(rt; elements.len() as u64, first + 2);
+    assert_eq!(rt; elements.len() as u64, first.saturating_add(2));
     Ok(())
 }
