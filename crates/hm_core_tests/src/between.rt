@@ -29,6 +29,14 @@ pub struct Flush {
     pub end: u32,
 }
 
+// From the end of one stage of a flush to that of another.
+#[derive(Clone, Copy)]
+pub struct Stretch {
+    pub flush: Flush,
+    pub from: u32,
+    pub to: u32,
+}
+
 pub fn go_on(
     rt: &impl Abort,
     alloc: Global,

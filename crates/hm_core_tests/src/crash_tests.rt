@@ -112,23 +112,15 @@ const COUNTING: u32 = 5 + 7 + (1 + 3 + 5);
 
 const COUNTING_RECOVERED: u32 = 5 + (1 + 3 + 5);
 
-// From 2 to 9, to 12, and to 15, each in two parts of so many numbers of changes and the others.
-const PLACING: (u32, u32) = (5 + 7 + 9 + 11 + 13, 15 + 17 + 19);
-
-const PLACING_CUT: usize = 5;
-
-const PLACING_NEXT: (u32, u32) = (19 + 21, 23 + 25);
-
-const PLACING_LAST: (u32, u32) = (25 + 27, 29 + 31);
-
-const PLACING_LATER_CUT: usize = 2;
+// While pages are placed there are from 2 unsettled writes to 9, to 12, and to 15: each test takes a few numbers of changes,
+// and has their images beside it.
 
 // All are recovered before the last stage, which writes after two payloads, and one at least where that write is lost.
 const COMMITTING: u32 = COMMITTING_BEFORE + 7 + 1;
 
 const COMMITTING_RECOVERED: u32 = COMMITTING_BEFORE + 1;
 
-const COMMITTING_BEFORE: u32 = 31 + 1 + 3 + (1 + 3) + 5 + (1 + 3 + 5);
+const COMMITTING_BEFORE: u32 = 1 + 3 + (1 + 3) + 5 + (1 + 3 + 5);
 
 // The calls of the disk that fail: of each call that fails the second write of its bytes.
 const FAILS: [u64; 2] = [CALLS_OF_MOUNT + 383, CALLS_OF_MOUNT + 431];
@@ -276,6 +268,20 @@ fn mount_stages(
     Ok(mounts)
 }
 
+// Mounts what crashes may leave in a part of the flush from the end of the first of these stages to that of the other: so
+// many images at least, all of which are recovered.
+fn recover_all(
+    rt: &impl Abort,
+    alloc: Global,
+    stages: (u32, u32),
+    part: Part,
+    least: u32,
+) -> Result<(), NoMemory> {
+    let mounts = mount_stages(rt, alloc, stages.0, stages.1, part, least)?;
+    assert_eq!(rt; mounts.recovered, mounts.images);
+    Ok(())
+}
+
 #[test]
 fn a_flush_with_calls_between_its_stages_ends_as_alone(rt: HostRuntime) -> Result<(), Fail> {
     let alloc = rt.alloc();
@@ -312,82 +318,96 @@ fn a_crash_as_the_log_comes_to_count_leaves_the_old_volume(rt: HostRuntime) -> R
 }
 
 #[test]
-fn a_crash_while_the_first_page_is_placed_leaves_the_old_volume(
+fn a_crash_while_two_pages_are_placed_leaves_the_old_volume_in_part_1(
     rt: HostRuntime,
 ) -> Result<(), Fail> {
-    let part = Part::First(PLACING_CUT);
-    let mounts = mount_stages(&rt, rt.alloc(), ARMED, TWO_PLACED, part, PLACING.0)?;
-    assert_eq!(rt; mounts.recovered, mounts.images);
+    let part = Part::Some { after: 0, most: 4 };
+    recover_all(&rt, rt.alloc(), (ARMED, TWO_PLACED), part, 5 + 7 + 9 + 11)?;
     Ok(())
 }
 
 #[test]
-fn a_crash_while_the_second_page_is_placed_leaves_the_old_volume(
+fn a_crash_while_two_pages_are_placed_leaves_the_old_volume_in_part_2(
     rt: HostRuntime,
 ) -> Result<(), Fail> {
-    let part = Part::Rest(PLACING_CUT);
-    let mounts = mount_stages(&rt, rt.alloc(), ARMED, TWO_PLACED, part, PLACING.1)?;
-    assert_eq!(rt; mounts.recovered, mounts.images);
+    let part = Part::Some { after: 4, most: 2 };
+    recover_all(&rt, rt.alloc(), (ARMED, TWO_PLACED), part, 13 + 15)?;
     Ok(())
 }
 
 #[test]
-fn a_crash_before_the_third_page_is_placed_leaves_the_old_volume(
+fn a_crash_while_two_pages_are_placed_leaves_the_old_volume_in_part_3(
     rt: HostRuntime,
 ) -> Result<(), Fail> {
-    let part = Part::First(PLACING_LATER_CUT);
-    let mounts = mount_stages(
-        &rt,
-        rt.alloc(),
-        TWO_PLACED,
-        THREE_PLACED,
-        part,
-        PLACING_NEXT.0,
-    )?;
-    assert_eq!(rt; mounts.recovered, mounts.images);
+    let part = Part::Rest(6);
+    recover_all(&rt, rt.alloc(), (ARMED, TWO_PLACED), part, 17 + 19)?;
     Ok(())
 }
 
 #[test]
-fn a_crash_while_the_third_page_is_placed_leaves_the_old_volume(
+fn a_crash_while_the_third_page_is_placed_leaves_the_old_volume_in_part_1(
     rt: HostRuntime,
 ) -> Result<(), Fail> {
-    let part = Part::Rest(PLACING_LATER_CUT);
-    let mounts = mount_stages(
-        &rt,
-        rt.alloc(),
-        TWO_PLACED,
-        THREE_PLACED,
-        part,
-        PLACING_NEXT.1,
-    )?;
-    assert_eq!(rt; mounts.recovered, mounts.images);
+    let part = Part::Some { after: 0, most: 2 };
+    recover_all(&rt, rt.alloc(), (TWO_PLACED, THREE_PLACED), part, 19 + 21)?;
     Ok(())
 }
 
 #[test]
-fn a_crash_before_the_last_page_is_placed_leaves_the_old_volume(
+fn a_crash_while_the_third_page_is_placed_leaves_the_old_volume_in_part_2(
     rt: HostRuntime,
 ) -> Result<(), Fail> {
-    let part = Part::First(PLACING_LATER_CUT);
-    let mounts = mount_stages(&rt, rt.alloc(), THREE_PLACED, PLACED, part, PLACING_LAST.0)?;
-    assert_eq!(rt; mounts.recovered, mounts.images);
+    let part = Part::Rest(2);
+    recover_all(&rt, rt.alloc(), (TWO_PLACED, THREE_PLACED), part, 23 + 25)?;
     Ok(())
 }
 
 #[test]
-fn a_crash_while_the_last_page_is_placed_leaves_the_old_volume(
+fn a_crash_while_the_last_page_is_placed_leaves_the_old_volume_in_part_1(
     rt: HostRuntime,
 ) -> Result<(), Fail> {
-    let part = Part::Rest(PLACING_LATER_CUT);
-    let mounts = mount_stages(&rt, rt.alloc(), THREE_PLACED, PLACED, part, PLACING_LAST.1)?;
-    assert_eq!(rt; mounts.recovered, mounts.images);
+    let part = Part::Some { after: 0, most: 1 };
+    recover_all(&rt, rt.alloc(), (THREE_PLACED, PLACED), part, 25)?;
+    Ok(())
+}
+
+#[test]
+fn a_crash_while_the_last_page_is_placed_leaves_the_old_volume_in_part_2(
+    rt: HostRuntime,
+) -> Result<(), Fail> {
+    let part = Part::Some { after: 1, most: 1 };
+    recover_all(&rt, rt.alloc(), (THREE_PLACED, PLACED), part, 27)?;
+    Ok(())
+}
+
+#[test]
+fn a_crash_while_the_last_page_is_placed_leaves_the_old_volume_in_part_3(
+    rt: HostRuntime,
+) -> Result<(), Fail> {
+    let part = Part::Some { after: 2, most: 1 };
+    recover_all(&rt, rt.alloc(), (THREE_PLACED, PLACED), part, 29)?;
+    Ok(())
+}
+
+#[test]
+fn a_crash_while_the_last_page_is_placed_leaves_the_old_volume_in_part_4(
+    rt: HostRuntime,
+) -> Result<(), Fail> {
+    let part = Part::Rest(3);
+    recover_all(&rt, rt.alloc(), (THREE_PLACED, PLACED), part, 31)?;
+    Ok(())
+}
+
+#[test]
+fn a_crash_before_the_header_changes_leaves_the_old_volume(rt: HostRuntime) -> Result<(), Fail> {
+    let part = Part::Some { after: 0, most: 1 };
+    recover_all(&rt, rt.alloc(), (PLACED, STAGES), part, 31)?;
     Ok(())
 }
 
 #[test]
 fn a_crash_while_the_header_changes_leaves_one_of_two_volumes(rt: HostRuntime) -> Result<(), Fail> {
-    let mounts = mount_stages(&rt, rt.alloc(), PLACED, STAGES, Part::All, COMMITTING)?;
+    let mounts = mount_stages(&rt, rt.alloc(), PLACED, STAGES, Part::Rest(1), COMMITTING)?;
     assert!(rt; COMMITTING_RECOVERED <= mounts.recovered, "{mounts:?}");
     Ok(())
 }

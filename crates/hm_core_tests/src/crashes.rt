@@ -83,9 +83,9 @@ fn image_of(
 #[derive(Clone, Copy)]
 pub enum Part {
     All,
-    // So many of them.
-    First(usize),
-    // Those behind so many.
+    // Behind so many of them, so many.
+    Some { after: usize, most: usize },
+    // All behind so many.
     Rest(usize),
 }
 
@@ -94,8 +94,11 @@ impl Part {
         let (first, last) = changes;
         match self {
             Part::All => changes,
-            Part::First(count) => (first, first.saturating_add(count).saturating_sub(1)),
-            Part::Rest(count) => (first.saturating_add(count), last),
+            Part::Some { after, most } => {
+                let begin = first.saturating_add(after);
+                (begin, begin.saturating_add(most).saturating_sub(1))
+            }
+            Part::Rest(after) => (first.saturating_add(after), last),
         }
     }
 }

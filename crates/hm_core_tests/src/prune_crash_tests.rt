@@ -1,6 +1,6 @@
 // Crashes within two flushes, after each of whose stages a unit of a prune is done, and calls go on: each image is mounted,
 // and compared with a volume that ran the same calls and units alone.
-use crate::between::{Between, Flush, go_on_by, make_stages, mount_runs, shown_of};
+use crate::between::{Between, Flush, Stretch, go_on_by, make_stages, mount_runs, shown_of};
 use crate::crash_tests::nearly_filled;
 use crate::crashes::{Mounts, Part, Volumes};
 use crate::elements::{ON, dead, elements_on};
@@ -63,6 +63,32 @@ const OF_UNITS: Flush = Flush {
     armed: 24,
     placed: 26,
     end: 30,
+};
+
+// Half of the pages of the first flush are placed, the others, and its header changes; and the pages of the second one are
+// placed.
+const HALF: Stretch = Stretch {
+    flush: OF_OPENING,
+    from: OF_OPENING.armed,
+    to: HALF_PLACED,
+};
+
+const REST: Stretch = Stretch {
+    flush: OF_OPENING,
+    from: HALF_PLACED,
+    to: OF_OPENING.placed,
+};
+
+const HEADER: Stretch = Stretch {
+    flush: OF_OPENING,
+    from: OF_OPENING.placed,
+    to: OF_OPENING.end,
+};
+
+const UNITS: Stretch = Stretch {
+    flush: OF_UNITS,
+    from: OF_UNITS.armed,
+    to: OF_UNITS.placed,
 };
 
 // After each stage of two flushes but their last ones: at least a unit. The first flush freezes what the first prune has
@@ -178,26 +204,15 @@ const COUNTING: u32 = 5 + 7 + 1 + 3 + (1 + 3 + 5) + 7 + (1 + 3 + 5);
 // All but where the header that names the log is lost or torn.
 const COUNTING_RECOVERED: u32 = 5 + (1 + 3 + 5);
 
-// From 2 to 10, and to 13, each in two parts of so many numbers of changes and the others.
-const PLACING: (u32, u32) = (5 + 7 + 9 + 11 + 13, 15 + 17 + 19 + 21);
-
-const PLACING_CUT: usize = 5;
-
-const PLACING_LAST: (u32, u32) = (21 + 23, 25 + 27);
-
-const PLACING_LAST_CUT: usize = 2;
-
-// The header that is about to be opened, in so many numbers of changes, and then the rest.
-const OPENING: u32 = 27 + (1 + 3 + 5) + 7;
-
-const OPENING_CUT: usize = 5;
+// While pages are placed there are from 2 to 10, and to 13: each test takes a few numbers of changes, and has their images
+// beside it. So it is where the header that is about to be opened has its first numbers.
 
 const COMMITTING: u32 = COMMITTING_BEFORE + 5 + 1;
 
 // All before the last stage, and one at least where its write is lost.
 const COMMITTING_RECOVERED: u32 = COMMITTING_BEFORE + 1;
 
-const COMMITTING_BEFORE: u32 = (1 + 3 + 5 + 7 + 9 + 11 + 13) + 15 + (1 + 3);
+const COMMITTING_BEFORE: u32 = 13 + 15 + (1 + 3);
 
 // From none to 11.
 const UNITS_WRITTEN: u32 = 1 + 3 + 5 + 7 + 9 + 11 + 13 + 15 + 17 + 19 + 21 + 23 + 1;
@@ -285,6 +300,21 @@ fn mount_stages(
     mount_runs(rt, alloc, &volumes, ended, first, last, part)
 }
 
+// Mounts what crashes may leave in a part of a stretch: so many images at least, all of which are recovered.
+fn recover_all(
+    rt: &impl Abort,
+    alloc: Global,
+    stretch: Stretch,
+    part: Part,
+    least: u32,
+) -> Result<(), NoMemory> {
+    let Stretch { flush, from, to } = stretch;
+    let mounts = mount_stages(rt, alloc, flush, from, to, part)?;
+    assert!(rt; least <= mounts.images, "{mounts:?}");
+    assert_eq!(rt; mounts.recovered, mounts.images);
+    Ok(())
+}
+
 // The id of the opening of the last prune: each line has one, and each ending.
 fn last_opening() -> u64 {
     let mut id = COMMITTED.0;
@@ -368,86 +398,83 @@ fn a_crash_as_the_log_of_an_opening_comes_to_count_leaves_the_old_volume(
 }
 
 #[test]
-fn a_crash_while_the_first_page_of_an_opening_is_placed_leaves_the_old_volume(
+fn a_crash_while_half_of_an_opening_is_placed_leaves_the_old_volume_in_part_1(
     rt: HostRuntime,
 ) -> Result<(), Fail> {
-    let part = Part::First(PLACING_CUT);
-    let mounts = mount_stages(
-        &rt,
-        rt.alloc(),
-        OF_OPENING,
-        OF_OPENING.armed,
-        HALF_PLACED,
-        part,
-    )?;
-    assert!(rt; PLACING.0 <= mounts.images, "{mounts:?}");
-    assert_eq!(rt; mounts.recovered, mounts.images);
+    let part = Part::Some { after: 0, most: 4 };
+    recover_all(&rt, rt.alloc(), HALF, part, 5 + 7 + 9 + 11)?;
     Ok(())
 }
 
 #[test]
-fn a_crash_while_the_second_page_of_an_opening_is_placed_leaves_the_old_volume(
+fn a_crash_while_half_of_an_opening_is_placed_leaves_the_old_volume_in_part_2(
     rt: HostRuntime,
 ) -> Result<(), Fail> {
-    let part = Part::Rest(PLACING_CUT);
-    let mounts = mount_stages(
-        &rt,
-        rt.alloc(),
-        OF_OPENING,
-        OF_OPENING.armed,
-        HALF_PLACED,
-        part,
-    )?;
-    assert!(rt; PLACING.1 <= mounts.images, "{mounts:?}");
-    assert_eq!(rt; mounts.recovered, mounts.images);
+    let part = Part::Some { after: 4, most: 2 };
+    recover_all(&rt, rt.alloc(), HALF, part, 13 + 15)?;
     Ok(())
 }
 
 #[test]
-fn a_crash_while_the_third_page_of_an_opening_is_placed_leaves_the_old_volume(
+fn a_crash_while_half_of_an_opening_is_placed_leaves_the_old_volume_in_part_3(
     rt: HostRuntime,
 ) -> Result<(), Fail> {
-    let part = Part::First(PLACING_LAST_CUT);
-    let mounts = mount_stages(
-        &rt,
-        rt.alloc(),
-        OF_OPENING,
-        HALF_PLACED,
-        OF_OPENING.placed,
-        part,
-    )?;
-    assert!(rt; PLACING_LAST.0 <= mounts.images, "{mounts:?}");
-    assert_eq!(rt; mounts.recovered, mounts.images);
+    let part = Part::Some { after: 6, most: 2 };
+    recover_all(&rt, rt.alloc(), HALF, part, 17 + 19)?;
     Ok(())
 }
 
 #[test]
-fn a_crash_while_the_last_page_of_an_opening_is_placed_leaves_the_old_volume(
+fn a_crash_while_half_of_an_opening_is_placed_leaves_the_old_volume_in_part_4(
     rt: HostRuntime,
 ) -> Result<(), Fail> {
-    let part = Part::Rest(PLACING_LAST_CUT);
-    let mounts = mount_stages(
-        &rt,
-        rt.alloc(),
-        OF_OPENING,
-        HALF_PLACED,
-        OF_OPENING.placed,
-        part,
-    )?;
-    assert!(rt; PLACING_LAST.1 <= mounts.images, "{mounts:?}");
-    assert_eq!(rt; mounts.recovered, mounts.images);
+    let part = Part::Rest(8);
+    recover_all(&rt, rt.alloc(), HALF, part, 21)?;
     Ok(())
 }
 
 #[test]
-fn a_crash_before_the_header_of_an_opening_changes_leaves_the_old_volume(
+fn a_crash_while_the_rest_of_an_opening_is_placed_leaves_the_old_volume_in_part_1(
     rt: HostRuntime,
 ) -> Result<(), Fail> {
-    let part = Part::First(OPENING_CUT);
-    let (from, to) = (OF_OPENING.placed, OF_OPENING.end);
-    let mounts = mount_stages(&rt, rt.alloc(), OF_OPENING, from, to, part)?;
-    assert!(rt; OPENING <= mounts.images, "{mounts:?}");
-    assert_eq!(rt; mounts.recovered, mounts.images);
+    let part = Part::Some { after: 0, most: 2 };
+    recover_all(&rt, rt.alloc(), REST, part, 21 + 23)?;
+    Ok(())
+}
+
+#[test]
+fn a_crash_while_the_rest_of_an_opening_is_placed_leaves_the_old_volume_in_part_2(
+    rt: HostRuntime,
+) -> Result<(), Fail> {
+    let part = Part::Some { after: 2, most: 1 };
+    recover_all(&rt, rt.alloc(), REST, part, 25)?;
+    Ok(())
+}
+
+#[test]
+fn a_crash_while_the_rest_of_an_opening_is_placed_leaves_the_old_volume_in_part_3(
+    rt: HostRuntime,
+) -> Result<(), Fail> {
+    let part = Part::Rest(3);
+    recover_all(&rt, rt.alloc(), REST, part, 27)?;
+    Ok(())
+}
+
+#[test]
+fn a_crash_before_the_header_of_an_opening_changes_leaves_the_old_volume_in_part_1(
+    rt: HostRuntime,
+) -> Result<(), Fail> {
+    let part = Part::Some { after: 0, most: 5 };
+    recover_all(&rt, rt.alloc(), HEADER, part, 27 + 1 + 3 + 5 + 7)?;
+    Ok(())
+}
+
+#[test]
+fn a_crash_before_the_header_of_an_opening_changes_leaves_the_old_volume_in_part_2(
+    rt: HostRuntime,
+) -> Result<(), Fail> {
+    let part = Part::Some { after: 5, most: 6 };
+    recover_all(&rt, rt.alloc(), HEADER, part, 1 + 3 + 5 + 7 + 9 + 11)?;
     Ok(())
 }
 
@@ -455,7 +482,7 @@ fn a_crash_before_the_header_of_an_opening_changes_leaves_the_old_volume(
 fn a_crash_while_the_header_of_an_opening_changes_leaves_one_of_two_volumes(
     rt: HostRuntime,
 ) -> Result<(), Fail> {
-    let part = Part::Rest(OPENING_CUT);
+    let part = Part::Rest(11);
     let (from, to) = (OF_OPENING.placed, OF_OPENING.end);
     let mounts = mount_stages(&rt, rt.alloc(), OF_OPENING, from, to, part)?;
     assert!(rt; COMMITTING <= mounts.images, "{mounts:?}");
@@ -499,16 +526,7 @@ fn a_crash_as_the_log_of_units_comes_to_count_leaves_the_old_volume(
 
 #[test]
 fn a_crash_while_units_are_placed_leaves_the_old_volume(rt: HostRuntime) -> Result<(), Fail> {
-    let mounts = mount_stages(
-        &rt,
-        rt.alloc(),
-        OF_UNITS,
-        OF_UNITS.armed,
-        OF_UNITS.placed,
-        Part::All,
-    )?;
-    assert!(rt; UNITS_PLACING <= mounts.images, "{mounts:?}");
-    assert_eq!(rt; mounts.recovered, mounts.images);
+    recover_all(&rt, rt.alloc(), UNITS, Part::All, UNITS_PLACING)?;
     Ok(())
 }
 

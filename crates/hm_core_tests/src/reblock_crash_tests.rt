@@ -1,6 +1,6 @@
 // Crashes within two flushes, after nearly each of whose stages a unit of a reblock is done, and calls go on: each image
 // is mounted, and compared with a volume that ran the same calls without a reblock.
-use crate::between::{Between, Flush, go_on, go_on_by, make_stages, mount_runs, shown_of};
+use crate::between::{Between, Flush, Stretch, go_on, go_on_by, make_stages, mount_runs, shown_of};
 use crate::crashes::{Mounts, Part, Volumes};
 use crate::elements::elements_on;
 use crate::run::Run;
@@ -88,6 +88,19 @@ const OF_NODES: Flush = Flush {
     end: 31,
 };
 
+// The pages of either flush are placed.
+const PIECES: Stretch = Stretch {
+    flush: OF_PIECES,
+    from: OF_PIECES.armed,
+    to: OF_PIECES.placed,
+};
+
+const NODES: Stretch = Stretch {
+    flush: OF_NODES,
+    from: OF_NODES.armed,
+    to: OF_NODES.placed,
+};
+
 // After each stage of two flushes but their last ones. What units and calls begin while the disk refers to what was moved
 // are other big-blocks: 17 by a large piece that moves, 18 by a node that does, and 19 by a small piece of a fill.
 const BETWEEN: [&[Between]; 31] = [
@@ -168,10 +181,8 @@ const COUNTING: u32 = 1 + 3 + (1 + 3 + 5) + 7 + 1 + 3 + 1;
 // One at least where the header that names the log is there, and all once it is settled.
 const COUNTING_RECOVERED: u32 = 1 + 1;
 
-// From none to 8, in two parts of so many numbers of changes and the others.
-const PLACING: (u32, u32) = (1 + 3 + 5 + 7 + 9 + 11, 13 + 15 + 17);
-
-const PLACING_CUT: usize = 6;
+// While pages are placed there are from none to 8, and where nodes moved from 1 to 10: each test takes a few numbers of
+// changes, and has their images beside it.
 
 const COMMITTING: u32 = COMMITTING_BEFORE + 5 + 1;
 
@@ -187,9 +198,6 @@ const NODES_COUNTING: u32 = 3 + 5 + (1 + 3 + 5 + 7) + 9 + (1 + 3) + 5 + (1 + 3);
 
 // All but where the header that names the log is lost or torn.
 const NODES_COUNTING_RECOVERED: u32 = 3 + (1 + 3);
-
-// From 1 to 10, in two parts as well.
-const NODES_PLACING: (u32, u32) = (3 + 5 + 7 + 9 + 11 + 13, 15 + 17 + 19 + 21);
 
 const NODES_COMMITTING: u32 = NODES_COMMITTING_BEFORE + 3 + 1;
 
@@ -351,6 +359,21 @@ fn mount_stages(
     mount_runs(rt, alloc, &volumes, ended, first, last, part)
 }
 
+// Mounts what crashes may leave in a part of a stretch: so many images at least, all of which are recovered.
+fn recover_all(
+    rt: &impl Abort,
+    alloc: Global,
+    stretch: Stretch,
+    part: Part,
+    least: u32,
+) -> Result<(), NoMemory> {
+    let Stretch { flush, from, to } = stretch;
+    let mounts = mount_stages(rt, alloc, flush, from, to, part)?;
+    assert!(rt; least <= mounts.images, "{mounts:?}");
+    assert_eq!(rt; mounts.recovered, mounts.images);
+    Ok(())
+}
+
 // All is as without a reblock once the volume is flushed again, and nothing refers to what the reblocks have emptied: what
 // names and the like take stands in big-block 12 still, and the bytes of files in 17 and 19.
 #[test]
@@ -434,38 +457,29 @@ fn a_crash_as_the_log_of_pieces_comes_to_count_leaves_the_old_volume(
 }
 
 #[test]
-fn a_crash_while_the_first_pages_of_pieces_are_placed_leaves_the_old_volume(
+fn a_crash_while_the_pages_of_pieces_are_placed_leaves_the_old_volume_in_part_1(
     rt: HostRuntime,
 ) -> Result<(), Fail> {
-    let part = Part::First(PLACING_CUT);
-    let mounts = mount_stages(
-        &rt,
-        rt.alloc(),
-        OF_PIECES,
-        OF_PIECES.armed,
-        OF_PIECES.placed,
-        part,
-    )?;
-    assert!(rt; PLACING.0 <= mounts.images, "{mounts:?}");
-    assert_eq!(rt; mounts.recovered, mounts.images);
+    let part = Part::Some { after: 0, most: 6 };
+    recover_all(&rt, rt.alloc(), PIECES, part, 1 + 3 + 5 + 7 + 9 + 11)?;
     Ok(())
 }
 
 #[test]
-fn a_crash_while_the_last_pages_of_pieces_are_placed_leaves_the_old_volume(
+fn a_crash_while_the_pages_of_pieces_are_placed_leaves_the_old_volume_in_part_2(
     rt: HostRuntime,
 ) -> Result<(), Fail> {
-    let part = Part::Rest(PLACING_CUT);
-    let mounts = mount_stages(
-        &rt,
-        rt.alloc(),
-        OF_PIECES,
-        OF_PIECES.armed,
-        OF_PIECES.placed,
-        part,
-    )?;
-    assert!(rt; PLACING.1 <= mounts.images, "{mounts:?}");
-    assert_eq!(rt; mounts.recovered, mounts.images);
+    let part = Part::Some { after: 6, most: 2 };
+    recover_all(&rt, rt.alloc(), PIECES, part, 13 + 15)?;
+    Ok(())
+}
+
+#[test]
+fn a_crash_while_the_pages_of_pieces_are_placed_leaves_the_old_volume_in_part_3(
+    rt: HostRuntime,
+) -> Result<(), Fail> {
+    let part = Part::Rest(8);
+    recover_all(&rt, rt.alloc(), PIECES, part, 17)?;
     Ok(())
 }
 
@@ -521,38 +535,38 @@ fn a_crash_as_the_log_of_nodes_comes_to_count_leaves_the_old_volume(
 }
 
 #[test]
-fn a_crash_while_the_first_moved_nodes_are_placed_leaves_the_old_volume(
+fn a_crash_while_moved_nodes_are_placed_leaves_the_old_volume_in_part_1(
     rt: HostRuntime,
 ) -> Result<(), Fail> {
-    let part = Part::First(PLACING_CUT);
-    let mounts = mount_stages(
-        &rt,
-        rt.alloc(),
-        OF_NODES,
-        OF_NODES.armed,
-        OF_NODES.placed,
-        part,
-    )?;
-    assert!(rt; NODES_PLACING.0 <= mounts.images, "{mounts:?}");
-    assert_eq!(rt; mounts.recovered, mounts.images);
+    let part = Part::Some { after: 0, most: 5 };
+    recover_all(&rt, rt.alloc(), NODES, part, 3 + 5 + 7 + 9 + 11)?;
     Ok(())
 }
 
 #[test]
-fn a_crash_while_the_last_moved_nodes_are_placed_leaves_the_old_volume(
+fn a_crash_while_moved_nodes_are_placed_leaves_the_old_volume_in_part_2(
     rt: HostRuntime,
 ) -> Result<(), Fail> {
-    let part = Part::Rest(PLACING_CUT);
-    let mounts = mount_stages(
-        &rt,
-        rt.alloc(),
-        OF_NODES,
-        OF_NODES.armed,
-        OF_NODES.placed,
-        part,
-    )?;
-    assert!(rt; NODES_PLACING.1 <= mounts.images, "{mounts:?}");
-    assert_eq!(rt; mounts.recovered, mounts.images);
+    let part = Part::Some { after: 5, most: 2 };
+    recover_all(&rt, rt.alloc(), NODES, part, 13 + 15)?;
+    Ok(())
+}
+
+#[test]
+fn a_crash_while_moved_nodes_are_placed_leaves_the_old_volume_in_part_3(
+    rt: HostRuntime,
+) -> Result<(), Fail> {
+    let part = Part::Some { after: 7, most: 2 };
+    recover_all(&rt, rt.alloc(), NODES, part, 17 + 19)?;
+    Ok(())
+}
+
+#[test]
+fn a_crash_while_moved_nodes_are_placed_leaves_the_old_volume_in_part_4(
+    rt: HostRuntime,
+) -> Result<(), Fail> {
+    let part = Part::Rest(9);
+    recover_all(&rt, rt.alloc(), NODES, part, 21)?;
     Ok(())
 }
 
