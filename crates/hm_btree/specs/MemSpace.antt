@@ -8,16 +8,16 @@ use Rattle.hm_types.specs.declared.zone.TheConstants.{TREE_ZONE}
 use Rattle.hm_node.specs.Shape.{HoldsNode}
 
 -- pages by their offsets
-abbrev pub Held : Type 0
-Held = BTreeMap ℕ (Box (List ℕ) Global)
+abbrev pub HeldPages : Type 0
+HeldPages = BTreeMap ℕ (Box (List ℕ) Global)
 
 -- each of them holds a node
-abbrev pub AllHoldNodes : Held → Type 0
+abbrev pub AllHoldNodes : HeldPages → Type 0
 AllHoldNodes pages = (at : ℕ) → IfSome (tree.get nat_cmp pages at) (λ (page : Box (List ℕ) Global). HoldsNode page.value)
 
 -- the page at an offset, if it is kept
-abbrev pub kept : Held → ℕ → Option (List ℕ)
-kept pages at = option_map (λ (page : Box (List ℕ) Global). page.value) (tree.get nat_cmp pages at)
+abbrev pub page_held : HeldPages → ℕ → Option (List ℕ)
+page_held pages at = option_map (λ (page : Box (List ℕ) Global). page.value) (tree.get nat_cmp pages at)
 
 -- the room of a zone
 abbrev pub room_of : ℕ → ℕ → ℕ

@@ -1,7 +1,9 @@
 // Edits of inner nodes.
-ghost use Rattle.std.specs.Prelude.{◌≡◌, ◌+◌, ◌/◌, ◌≤◌, ◌<◌, ◌++◌, if◌then◌else◌, false, max, take, drop, insert, remove, nat_eq, nat_lt};
+ghost use Rattle.std.specs.Prelude.{◌≡◌, ◌+◌, ◌/◌, ◌≤◌, ◌<◌, ◌++◌, if◌then◌else◌, false, max};
+ghost use Rattle.std.specs.Prelude.{take, drop, insert, remove, nat_eq, nat_lt};
 ghost use Rattle.arrayvec.specs.ArrayVec.{array_vec_len};
-ghost use Rattle.hm_btree.specs.Edits.{inner_of, left_of, lower_count, with_child, with_mirror, with_left, InnerGrown, ChildChange};
+ghost use Rattle.hm_btree.specs.Edits.{ChildChange, InnerGrown, inner_of, left_of, lower_count};
+ghost use Rattle.hm_btree.specs.Edits.{with_child, with_left, with_mirror};
 ghost use Rattle.hm_node.specs.Edits.{IsInnerPage};
 ghost use Rattle.hm_node.specs.Head.{head_in};
 ghost use Rattle.hm_node.specs.Inner.{IsNodeOffset};

@@ -2,7 +2,7 @@
 ghost use Rattle.std.proofs.Props.{props};
 ghost use Rattle.hm_node.specs.Props.{HoldsNode-prop};
 ghost use Rattle.hm_node.specs.Shape.{HoldsNode};
-ghost use Rattle.hm_btree.specs.MemSpace.{kept, room_of, AllHoldNodes};
+ghost use Rattle.hm_btree.specs.MemSpace.{page_held, room_of, AllHoldNodes};
 
 use crate::space::{MOST_NODES, NODE_BYTES, NodeSpace};
 use hm_fields::{Page, Pages};
@@ -30,7 +30,7 @@ impl MemSpace {
 
     /// No page, and so many bytes of room in zone 8. It takes no memory.
     pub fn new(alloc: Global, room: u64) -> MemSpace
-        ensures pages { (at : ℕ) → kept result.pages at ≡ None }
+        ensures pages { (at : ℕ) → page_held result.pages at ≡ None }
         ensures room { ⟦<MemSpace as HasRoom>⟧.room result ≡ room_of room }
     {
         MemSpace {
@@ -56,10 +56,10 @@ impl MemSpace {
     // Puts the page of a node.
     fn put(&mut self, at: HOff, with: &Page) -> Result<(), Fault>
         requires node { HoldsNode with.now }
-        ensures ok { OnOk result (HasPut at with.now (kept self.old.pages) (kept self.new.pages)) }
+        ensures ok { OnOk result (HasPut at with.now (page_held self.old.pages) (page_held self.new.pages)) }
         ensures room { self.new.room ≡ self.old.room }
         ensures made { self.new.made ≡ self.old.made }
-        ensures cause { HasStoreCause (Some (kept self.old.pages)) 0 0 result }
+        ensures cause { HasStoreCause (Some (page_held self.old.pages)) 0 0 result }
     {
         let page = Box::new(self.alloc, *with)?;
         self.pages.insert(at, page)?;
@@ -88,7 +88,7 @@ impl HasRoom for MemSpace {
 impl Pages for MemSpace {
     ghost use Rattle.std.specs.Prelude.{ℕ, Some};
 
-    ghost pages = { λ m. Some (kept m.pages) };
+    ghost pages = { λ m. Some (page_held m.pages) };
 
     ghost kept = { λ _ bytes. HoldsNode bytes };
 

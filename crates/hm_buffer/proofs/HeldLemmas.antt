@@ -11,13 +11,13 @@ use Rattle.hm_disk.specs.Crash.{MayLeave, Told}
 use Rattle.hm_disk.specs.Disk.{MayBeTorn, Written}
 use Rattle.hm_disk.specs.WriteLaws.{MayLeave-overwritten}
 use Rattle.hm_disk.proofs.RangeLemmas.{part_of_part}
-use Rattle.hm_buffer.specs.Held.{AreHeld, ArePlaced, Empties, Forgets, GivesPage, Holds, IsApart, IsSizeOf, page_of}
+use Rattle.hm_buffer.specs.Held.{AgreeWithDisk, ArePlaced, Empties, Forgets, GivesPage, Holds, IsApart, IsToldSize, bytes_of_page}
 use Rattle.hm_buffer.specs.declared.held_page.HeldPage.{HeldPage}
 use Rattle.hm_buffer.specs.declared.held_page.TheConstants.{SLOTS}
 
 -- a short range of a disk is the part of its page
 pub part_of_page : (xs : List ℕ) (place len : ℕ) → place % 4096 + len ≤ 4096
-    → slice_range (page_of xs (place / 4096)) (place % 4096) (place % 4096 + len) ≡ slice_range xs place (place + len)
+    → slice_range (bytes_of_page xs (place / 4096)) (place % 4096) (place % 4096 + len) ≡ slice_range xs place (place + len)
 part_of_page xs place len within =
     let whole : place / 4096 * 4096 + place % 4096 ≡ place = omega arith in
     let ends : place / 4096 * 4096 + (place % 4096 + len) ≡ place + len = omega arith in
@@ -43,7 +43,7 @@ part_same xs ys p n sized same =
 
 -- a write leaves a page that has no byte of its range
 page_kept : (old new : List ℕ) (place count number : ℕ) → MayLeave old ((place, count) ∷ []) new → IsApart place count number
-    → page_of new number ≡ page_of old number
+    → bytes_of_page new number ≡ bytes_of_page old number
 page_kept old new place count number left apart =
     part_same old new (number * 4096) 4096 left.size (λ byte below from before. left.same byte below (beside apart byte from before, tt)) where
       beside : IsApart place count number → (byte : ℕ) → number * 4096 ≤ byte → byte < number * 4096 + 4096 → (byte < place) ⊎ (place + count ≤ byte)
@@ -80,9 +80,9 @@ told_left place bytes None (Some u) (Err e) within ok err = err
 pub held_after : (place : ℕ) (bytes : List ℕ) (old new : Option Told) (result : Result (Unit {0}) Failed) (before after : List (Option (Box HeldPage)))
     → IfSome old (λ t. place + length bytes ≤ length t.bytes)
     → OnOk result (BothTell old new (Written place bytes)) → OnErr result (BothTell old new (MayBeTorn place (length bytes)))
-    → Forgets place (length bytes) before after → AreHeld old before → AreHeld new after
+    → Forgets place (length bytes) before after → AgreeWithDisk old before → AgreeWithDisk new after
 held_after place bytes old new result before after within ok err forgets held = by old new (told_left place bytes old new result within ok err) held where
-  by : (o n : Option Told) → BothTell o n (λ t u. MayLeave t.bytes ((place, length bytes) ∷ []) u.bytes) → AreHeld o before → AreHeld n after
+  by : (o n : Option Told) → BothTell o n (λ t u. MayLeave t.bytes ((place, length bytes) ∷ []) u.bytes) → AgreeWithDisk o before → AgreeWithDisk n after
   by (Some t) (Some u) left were = λ i page holds.
       let kept = forgets i page holds in
       were i page kept.0 ∙ sym (page_kept t.bytes u.bytes place (length bytes) page.value.number left kept.1)
@@ -93,10 +93,10 @@ held_after place bytes old new result before after within ok err forgets held = 
 pub size_after : (place : ℕ) (bytes : List ℕ) (old new : Option Told) (result : Result (Unit {0}) Failed) (size : Option ℕ)
     → IfSome old (λ t. place + length bytes ≤ length t.bytes)
     → OnOk result (BothTell old new (Written place bytes)) → OnErr result (BothTell old new (MayBeTorn place (length bytes)))
-    → IsSizeOf size old → IsSizeOf size new
+    → IsToldSize size old → IsToldSize size new
 size_after place bytes old new result None within ok err is = tt
 size_after place bytes old new result (Some n) within ok err is = by old new (told_left place bytes old new result within ok err) is where
-  by : (o m : Option Told) → BothTell o m (λ t u. MayLeave t.bytes ((place, length bytes) ∷ []) u.bytes) → IsSizeOf (Some n) o → IsSizeOf (Some n) m
+  by : (o m : Option Told) → BothTell o m (λ t u. MayLeave t.bytes ((place, length bytes) ∷ []) u.bytes) → IsToldSize (Some n) o → IsToldSize (Some n) m
   by (Some t) (Some u) left was = was ∙ sym left.size
   by None None left was = tt
   by None (Some u) left was = absurd left

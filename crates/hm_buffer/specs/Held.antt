@@ -19,17 +19,17 @@ abbrev pub ArePlaced : List (Option (Box HeldPage)) → Type 0
 ArePlaced slots = (i : ℕ) (page : Box HeldPage) → Holds slots i page → page.value.number % SLOTS ≡ i
 
 -- the bytes of a page of a disk
-abbrev pub page_of : List ℕ → ℕ → List ℕ
-page_of bytes number = slice_range bytes (number * PAGE_BYTES) (number * PAGE_BYTES + PAGE_BYTES)
+abbrev pub bytes_of_page : List ℕ → ℕ → List ℕ
+bytes_of_page bytes number = slice_range bytes (number * PAGE_BYTES) (number * PAGE_BYTES + PAGE_BYTES)
 
 -- where a disk tells its bytes, each page that is held has those that stand there
-abbrev pub AreHeld : Option Told → List (Option (Box HeldPage)) → Type 0
-AreHeld told slots = IfSome told (λ t. (i : ℕ) (page : Box HeldPage) → Holds slots i page
-    → page.value.bytes ≡ page_of t.bytes page.value.number)
+abbrev pub AgreeWithDisk : Option Told → List (Option (Box HeldPage)) → Type 0
+AgreeWithDisk told slots = IfSome told (λ t. (i : ℕ) (page : Box HeldPage) → Holds slots i page
+    → page.value.bytes ≡ bytes_of_page t.bytes page.value.number)
 
 -- a size that is known is that of the disk
-abbrev pub IsSizeOf : Option ℕ → Option Told → Type 0
-IsSizeOf size told = IfSome size (λ n. IfSome told (λ t. n ≡ length t.bytes))
+abbrev pub IsToldSize : Option ℕ → Option Told → Type 0
+IsToldSize size told = IfSome size (λ n. IfSome told (λ t. n ≡ length t.bytes))
 
 -- what is held still was held, and in another slot than this one
 abbrev pub Empties : ℕ → List (Option (Box HeldPage)) → List (Option (Box HeldPage)) → Type 0
@@ -50,4 +50,4 @@ IsWithin number told is = IsTrue is → IfSome told (λ t. number * PAGE_BYTES +
 
 -- these are the bytes of a page, where the disk tells
 abbrev pub GivesPage : ℕ → List ℕ → Option Told → Type 0
-GivesPage number bytes told = IfSome told (λ t. bytes ≡ page_of t.bytes number)
+GivesPage number bytes told = IfSome told (λ t. bytes ≡ bytes_of_page t.bytes number)

@@ -3,7 +3,7 @@ ghost use Rattle.std.specs.Prelude.{◌≡◌, ◌<◌, ◌^◌, IfOk, IfSome, O
 ghost use Rattle.std.proofs.Props.{props};
 ghost use Rattle.hm_types.specs.Faults.{HasCause};
 ghost use Rattle.hm_disk.specs.Moments.{SameLeft};
-ghost use Rattle.hm_buffer.specs.Held.{AreHeld, ArePlaced, GivesPage, IsSizeOf, IsWithin};
+ghost use Rattle.hm_buffer.specs.Held.{AgreeWithDisk, ArePlaced, GivesPage, IsToldSize, IsWithin};
 
 use crate::held_page::{HeldPage, Slot, empty_slots, forget, slot_of};
 use hm_disk::Disk;
@@ -25,8 +25,8 @@ pub struct BufferedDisk<D: Disk> {
     // The size of the disk in bytes, once it was asked for.
     size: Option<u64>,
     slots: Vec<Slot>,
-    ghost sized: { IsSizeOf size (D.told disk) } by { Prim.hlevel props },
-    ghost held: { AreHeld (D.told disk) slots.items } by { Prim.hlevel props },
+    ghost sized: { IsToldSize size (D.told disk) } by { Prim.hlevel props },
+    ghost held: { AgreeWithDisk (D.told disk) slots.items } by { Prim.hlevel props },
     ghost placed: { ArePlaced slots.items } by { Prim.hlevel props },
 }
 

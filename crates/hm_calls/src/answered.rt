@@ -1,11 +1,10 @@
 // A call of any kind that is answered, by what serves its command.
 ghost use Rattle.std.specs.Prelude.{◌≡◌, ◌≤◌, ◌+◌, ◌-◌, IfOk, OnOk, option_map};
 ghost use Rattle.hm_types.specs.declared.limits.TheConstants.{GREATEST_ID};
-ghost use Rattle.hm_key.specs.Balance.{Balanced};
 ghost use Rattle.hm_key.specs.Charges.{Charges};
-ghost use Rattle.hm_key.specs.Stores.{Keeps};
+ghost use Rattle.hm_key.specs.Members.{InBalance, KeepsFrame, KeepsTold};
 ghost use Rattle.hm_model.specs.Forms.{IsInRange};
-ghost use Rattle.hm_cursor.specs.Told.{HasReadingCause};
+ghost use Rattle.hm_cursor.specs.Told.{ReadsWithCause};
 ghost use Rattle.hm_calls.specs.Answered.{AnswersCall, IsAnswerable, answered_by, reply_in};
 ghost use Rattle.hm_calls.specs.Commands.{LowersRoomFor, reserves_for};
 ghost use Rattle.hm_calls.specs.Known.{AreKnown};
@@ -64,7 +63,7 @@ pub fn answer_call<T: ElementStore + Extents, H: NameHash>(
 ) -> Result<Answered, Fault>
     requires command { IsAnswerable command.now × IsInRange command.now }
     requires id { (1 ≤ id.0) × (id.0 ≤ GREATEST_ID) }
-    requires balanced { Balanced (T.elements store.old) (T.extents store.old) }
+    requires balanced { InBalance T.HasElements store.old }
     requires known { AreKnown (T.elements store.old) (T.extents store.old) id.0 }
     ensures answers { IfOk result (AnswersCall T.elements T.mark T.extents T.room T.free
         (H.hash_of hash.now) id.0 command.now beside store.old store.new) }
@@ -72,14 +71,12 @@ pub fn answer_call<T: ElementStore + Extents, H: NameHash>(
         (option_map (λ i. i.0) beside.busy) command.now (reply_in answered)) }
     ensures known { OnOk result (AreKnown (T.elements store.new) (T.extents store.new)
         (id.0 + 1)) }
-    ensures keeps { Keeps T.elements T.extents store.old store.new result }
+    ensures keeps { KeepsTold T.HasElements store.old store.new result }
     ensures room { LowersRoomFor command.now T.room store.old store.new }
     ensures charges { OnOk result (Charges T.room T.free (reserves_for command.now)
         store.old store.new) }
-    ensures borrowed { (T.name store.new ≡ T.name store.old)
-        × (T.frame store.new ≡ T.frame store.old) }
-    ensures cause { HasReadingCause (T.elements store.old) (T.extents store.old)
-        (T.faults store.old) (T.faults store.new) result }
+    ensures borrowed { KeepsFrame T.Counted store.old store.new }
+    ensures cause { ReadsWithCause T.HasElements store.old store.new result }
 {
     match command {
         Command::PfsStatus { path } => {

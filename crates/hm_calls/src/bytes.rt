@@ -1,9 +1,8 @@
 // The bytes of files.
 ghost use Rattle.std.specs.Prelude.{◌≡◌, IfOk};
-ghost use Rattle.hm_key.specs.Balance.{Balanced};
-ghost use Rattle.hm_key.specs.Stores.{Same};
-ghost use Rattle.hm_cursor.specs.Told.{HasReadingCause, OnBalanced};
+ghost use Rattle.hm_cursor.specs.Told.{OnBalanced, ReadsWithCause};
 ghost use Rattle.hm_calls.specs.Bytes.{AreAsked};
+ghost use Rattle.hm_key.specs.Members.{InBalance, IsSame, KeepsFrame};
 
 use hm_dirs::Stand;
 use hm_files::read_bytes;
@@ -21,14 +20,12 @@ pub(crate) fn bytes_at<T: ElementStore + Extents>(
     offset: u64,
     count: u32,
 ) -> Result<Bytes, Fault>
-    requires balanced { Balanced (T.elements store.old) (T.extents store.old) }
+    requires balanced { InBalance T.HasElements store.old }
     ensures ok { IfOk result (λ bytes. OnBalanced (T.elements store.old) (T.extents store.old)
         (AreAsked file.now size offset count bytes)) }
-    ensures keeps { Same T.elements T.mark T.extents T.room T.free store.old store.new }
-    ensures borrowed { (T.name store.new ≡ T.name store.old)
-        × (T.frame store.new ≡ T.frame store.old) }
-    ensures cause { HasReadingCause (T.elements store.old) (T.extents store.old)
-        (T.faults store.old) (T.faults store.new) result }
+    ensures keeps { IsSame T.HasElements store.old store.new }
+    ensures borrowed { KeepsFrame T.Counted store.old store.new }
+    ensures cause { ReadsWithCause T.HasElements store.old store.new result }
 {
     if offset.min(size) > MOST_FILE_BYTES {
         return Err(Fault::NoMemory);

@@ -1,14 +1,13 @@
 // What a call on names, or on the bytes of files, answers.
 ghost use Rattle.std.specs.Prelude.{◌≡◌, ◌≤◌, IfOk, IsTrue, ◌+◌, ◌-◌, OnOk, option_map};
 ghost use Rattle.hm_types.specs.declared.limits.TheConstants.{GREATEST_ID};
-ghost use Rattle.hm_key.specs.Balance.{Balanced};
 ghost use Rattle.hm_key.specs.Charges.{Charges};
-ghost use Rattle.hm_key.specs.Stores.{Keeps};
+ghost use Rattle.hm_key.specs.Members.{InBalance, KeepsFrame, KeepsTold};
 ghost use Rattle.hm_model.specs.Call.{Call};
 ghost use Rattle.hm_model.specs.Due.{is_tree_call};
 ghost use Rattle.hm_model.specs.Forms.{IsInRange};
 ghost use Rattle.hm_model.specs.declared.reply.Reply.TheVariants.{Done as done};
-ghost use Rattle.hm_cursor.specs.Told.{HasReadingCause};
+ghost use Rattle.hm_cursor.specs.Told.{ReadsWithCause};
 ghost use Rattle.hm_calls.specs.Commands.{IsOnTrees, LowersRoomFor, reserves_for};
 ghost use Rattle.hm_calls.specs.Known.{AreKnown};
 ghost use Rattle.hm_calls.specs.Possible.{Gives, MayReply};
@@ -64,21 +63,19 @@ pub fn answer<T: ElementStore + Extents, H: NameHash>(
 ) -> Result<Reply, Fault>
     requires command { IsOnTrees command.now × IsInRange command.now }
     requires id { (1 ≤ id.0) × (id.0 ≤ GREATEST_ID) }
-    requires balanced { Balanced (T.elements store.old) (T.extents store.old) }
+    requires balanced { InBalance T.HasElements store.old }
     requires known { AreKnown (T.elements store.old) (T.extents store.old) id.0 }
     ensures replies { IfOk result (Replies T.elements T.mark T.extents T.room T.free
         (H.hash_of hash.now) id.0 (Asks command.now busy) command.now store.old store.new) }
     ensures possible { IfOk result (MayReply (id.0 - 1) (option_map (λ i. i.0) busy) command.now) }
     ensures known { OnOk result (AreKnown (T.elements store.new) (T.extents store.new)
         (id.0 + 1)) }
-    ensures keeps { Keeps T.elements T.extents store.old store.new result }
+    ensures keeps { KeepsTold T.HasElements store.old store.new result }
     ensures room { LowersRoomFor command.now T.room store.old store.new }
     ensures charges { OnOk result (Charges T.room T.free (reserves_for command.now)
         store.old store.new) }
-    ensures borrowed { (T.name store.new ≡ T.name store.old)
-        × (T.frame store.new ≡ T.frame store.old) }
-    ensures cause { HasReadingCause (T.elements store.old) (T.extents store.old)
-        (T.faults store.old) (T.faults store.new) result }
+    ensures borrowed { KeepsFrame T.Counted store.old store.new }
+    ensures cause { ReadsWithCause T.HasElements store.old store.new result }
 {
     match serve(alloc, store, hash, command, id) {
         Ok(reply) => Ok(reply),
@@ -97,7 +94,7 @@ fn serve<T: ElementStore + Extents, H: NameHash>(
 ) -> Result<Reply, Stop>
     requires command { IsOnTrees command.now × IsInRange command.now }
     requires id { (1 ≤ id.0) × (id.0 ≤ GREATEST_ID) }
-    requires balanced { Balanced (T.elements store.old) (T.extents store.old) }
+    requires balanced { InBalance T.HasElements store.old }
     requires known { AreKnown (T.elements store.old) (T.extents store.old) id.0 }
     ensures answers { IsAnswered T.elements T.mark T.extents T.room T.free (H.hash_of hash.now) id.0
         command.now store.old store.new result }
@@ -105,9 +102,10 @@ fn serve<T: ElementStore + Extents, H: NameHash>(
     ensures done { IsTrue (is_tree_call command.now) → IfOk result (λ reply. reply ≡ done) }
     ensures known { OnOk result (AreKnown (T.elements store.new) (T.extents store.new)
         (id.0 + 1)) }
-    ensures keeps { Keeps T.elements T.extents store.old store.new result }
+    ensures keeps { KeepsTold T.HasElements store.old store.new result }
     ensures room { TakesAtMost T.room T.free (reserves_for command.now) store.old store.new result
-        × (T.name store.new ≡ T.name store.old) × (T.frame store.new ≡ T.frame store.old) }
+        × (T.name store.new ≡ T.name store.old)
+        × (T.frame store.new ≡ T.frame store.old) }
     ensures cause { HasStopCause (T.elements store.old) (T.extents store.old)
         (T.faults store.old) (T.faults store.new) result }
 {

@@ -1,27 +1,24 @@
 // Checks that look into the store.
-ghost use Rattle.std.specs.Prelude.{◌≡◌, ◌==◌, ℕ, List, None, Some, IfOk, OnOk, false, true};
-ghost use Rattle.std.specs.Prelude.{if◌then◌else◌, length, option_map};
+ghost use Rattle.std.specs.Prelude.{◌≡◌, ◌==◌, ℕ, List, None, Some, IfOk, OnOk, false, true, if◌then◌else◌, length};
+ghost use Rattle.std.specs.Prelude.{option_map};
 ghost use Rattle.std.specs.Bool.{nat_le, nat_lt};
 ghost use Rattle.std.specs.Option.{option_map_or};
 ghost use Rattle.hm_types.specs.Tree.{FileTree, entries_in, named_in};
 ghost use Rattle.hm_types.specs.declared.id.Obj.{Obj as Number};
-ghost use Rattle.hm_key.specs.Balance.{Balanced};
 ghost use Rattle.hm_key.specs.Counts.{Counts};
-ghost use Rattle.hm_key.specs.Stores.{Same};
+ghost use Rattle.hm_key.specs.Members.{InBalance, IsSame, KeepsFrame};
 ghost use Rattle.hm_model.specs.Answer.{is_master};
 ghost use Rattle.hm_model.specs.Due.{refuse_if};
 ghost use Rattle.hm_model.specs.View.{View};
 ghost use Rattle.hm_model.specs.Volume.{Volume, system_of};
-ghost use Rattle.hm_model.specs.declared.reply.Reply.TheVariants.{CrossPfs as cross_pfs};
-ghost use Rattle.hm_model.specs.declared.reply.Reply.TheVariants.{Exists as exists};
-ghost use Rattle.hm_model.specs.declared.reply.Reply.TheVariants.{HashFull as hash_full};
-ghost use Rattle.hm_model.specs.declared.reply.Reply.TheVariants.{NotEmpty as not_empty};
+ghost use Rattle.hm_model.specs.declared.reply.Reply.TheVariants.{CrossPfs as cross_pfs, Exists as exists};
+ghost use Rattle.hm_model.specs.declared.reply.Reply.TheVariants.{HashFull as hash_full, NotEmpty as not_empty};
 ghost use Rattle.hm_model.specs.declared.reply.Reply.TheVariants.{ReadOnly as read_only};
 ghost use Rattle.hm_records.specs.KeysFit.{KeysFit};
 ghost use Rattle.hm_records.specs.View.{IsViewOf};
 ghost use Rattle.hm_records.specs.declared.pfs_record.PfsRecord.{PfsRecord as Told};
 ghost use Rattle.hm_volume.specs.Shown.{ShowsAs};
-ghost use Rattle.hm_cursor.specs.Told.{HasReadingCause, OnBalanced, fulls};
+ghost use Rattle.hm_cursor.specs.Told.{OnBalanced, ReadsWithCause, fulls};
 ghost use Rattle.hm_dirs.specs.Names.{IsLookedUp, IsSpot, OnNamed, first_key, names_of_hash};
 ghost use Rattle.hm_calls.specs.Known.{AreBelowIn, AreKnown};
 ghost use Rattle.hm_cursor.specs.Names.{IsHash};
@@ -42,7 +39,7 @@ pub(crate) fn check_master<T: ElementStore + Extents>(
     store: &mut T,
     pfs: Pfs,
 ) -> Result<(), Stop>
-    requires balanced { Balanced (T.elements store.old) (T.extents store.old) }
+    requires balanced { InBalance T.HasElements store.old }
     ensures ok { OnBalanced (T.elements store.old) (T.extents store.old) (λ lists.
         (volume : Volume) (view : View) → ShowsAs (fulls lists) volume view →
         Answers (refuse_if (option_map_or (λ s. if is_master s then false else true)
@@ -50,9 +47,8 @@ pub(crate) fn check_master<T: ElementStore + Extents>(
     ensures below { OnOk result ((id : ℕ) → AreKnown (T.elements store.old) (T.extents store.old) id
         → AreBelowIn (T.elements store.old) (T.extents store.old) pfs.0 id) }
     ensures gives { IfRefused result (λ reply. reply ≡ read_only) }
-    ensures keeps { Same T.elements T.mark T.extents T.room T.free store.old store.new }
-    ensures borrowed { (T.name store.new ≡ T.name store.old)
-        × (T.frame store.new ≡ T.frame store.old) }
+    ensures keeps { IsSame T.HasElements store.old store.new }
+    ensures borrowed { KeepsFrame T.Counted store.old store.new }
     ensures cause { HasStopCause (T.elements store.old) (T.extents store.old)
         (T.faults store.old) (T.faults store.new) result }
 {
@@ -80,17 +76,15 @@ pub(crate) fn find_entry<T: ElementStore + Extents, H: NameHash>(
     directory: &Stand,
     name: &[u8],
 ) -> Result<Option<(u64, Obj)>, Fault>
-    requires balanced { Balanced (T.elements store.old) (T.extents store.old) }
+    requires balanced { InBalance T.HasElements store.old }
     ensures ok { IfOk result (λ found. OnNamed (H.hash_of hash.now)
         (T.elements store.old) (T.extents store.old) (λ lists.
         IsLookedUp directory.now.as_of.0 directory.now.at.pfs.0 directory.now.at.object name.now found lists
         × ((tree : FileTree) → IsViewOf (fulls lists) directory.now.at.pfs.0 directory.now.as_of.0 tree →
         named_in tree directory.now.at.object name.now ≡ option_map (λ (f : ℕ × Number). f.1) found))) }
-    ensures keeps { Same T.elements T.mark T.extents T.room T.free store.old store.new }
-    ensures borrowed { (T.name store.new ≡ T.name store.old)
-        × (T.frame store.new ≡ T.frame store.old) }
-    ensures cause { HasReadingCause (T.elements store.old) (T.extents store.old)
-        (T.faults store.old) (T.faults store.new) result }
+    ensures keeps { IsSame T.HasElements store.old store.new }
+    ensures borrowed { KeepsFrame T.Counted store.old store.new }
+    ensures cause { ReadsWithCause T.HasElements store.old store.new result }
 {
     look_up(
         store,
@@ -109,15 +103,14 @@ pub(crate) fn check_new<T: ElementStore + Extents, H: NameHash>(
     directory: &Stand,
     name: &[u8],
 ) -> Result<(), Stop>
-    requires balanced { Balanced (T.elements store.old) (T.extents store.old) }
+    requires balanced { InBalance T.HasElements store.old }
     ensures ok { OnNamed (H.hash_of hash.now) (T.elements store.old) (T.extents store.old) (λ lists.
         (tree : FileTree) → IsViewOf (fulls lists) directory.now.at.pfs.0 directory.now.as_of.0 tree →
         Answers (option_map_or (λ _. Some exists) (named_in tree directory.now.at.object name.now) None)
         result) }
     ensures gives { IfRefused result (λ reply. reply ≡ exists) }
-    ensures keeps { Same T.elements T.mark T.extents T.room T.free store.old store.new }
-    ensures borrowed { (T.name store.new ≡ T.name store.old)
-        × (T.frame store.new ≡ T.frame store.old) }
+    ensures keeps { IsSame T.HasElements store.old store.new }
+    ensures borrowed { KeepsFrame T.Counted store.old store.new }
     ensures cause { HasStopCause (T.elements store.old) (T.extents store.old)
         (T.faults store.old) (T.faults store.new) result }
 {
@@ -133,16 +126,15 @@ pub(crate) fn check_empty<T: ElementStore + Extents>(
     store: &mut T,
     directory: &Stand,
 ) -> Result<(), Stop>
-    requires balanced { Balanced (T.elements store.old) (T.extents store.old) }
+    requires balanced { InBalance T.HasElements store.old }
     ensures ok { OnBalanced (T.elements store.old) (T.extents store.old) (λ lists.
         (hash : List ℕ → ℕ) (tree : FileTree) → IsHash hash → KeysFit hash (fulls lists) →
         IsViewOf (fulls lists) directory.now.at.pfs.0 directory.now.as_of.0 tree →
         Answers (refuse_if (nat_lt 0 (length (entries_in tree directory.now.at.object))) not_empty)
         result) }
     ensures gives { IfRefused result (λ reply. reply ≡ not_empty) }
-    ensures keeps { Same T.elements T.mark T.extents T.room T.free store.old store.new }
-    ensures borrowed { (T.name store.new ≡ T.name store.old)
-        × (T.frame store.new ≡ T.frame store.old) }
+    ensures keeps { IsSame T.HasElements store.old store.new }
+    ensures borrowed { KeepsFrame T.Counted store.old store.new }
     ensures cause { HasStopCause (T.elements store.old) (T.extents store.old)
         (T.faults store.old) (T.faults store.new) result }
 {
@@ -162,7 +154,7 @@ pub(crate) fn spot_in<T: ElementStore + Extents, H: NameHash>(
     directory: &Stand,
     name: &Name,
 ) -> Result<Spot, Stop>
-    requires balanced { Balanced (T.elements store.old) (T.extents store.old) }
+    requires balanced { InBalance T.HasElements store.old }
     ensures ok { OnNamed (H.hash_of hash.now) (T.elements store.old) (T.extents store.old) (λ lists.
         (tree : FileTree) → IsViewOf (fulls lists) directory.now.at.pfs.0 directory.now.as_of.0 tree →
         Answers (refuse_if (nat_le 1024 (names_of_hash (H.hash_of hash.now) tree
@@ -173,9 +165,8 @@ pub(crate) fn spot_in<T: ElementStore + Extents, H: NameHash>(
         IsSpot (Counts (fulls lists) directory.now.as_of.0) directory.now.at.pfs.0
         directory.now.at.object (first_key (H.hash_of hash.now name.now)) spot)) }
     ensures gives { IfRefused result (λ reply. reply ≡ hash_full) }
-    ensures keeps { Same T.elements T.mark T.extents T.room T.free store.old store.new }
-    ensures borrowed { (T.name store.new ≡ T.name store.old)
-        × (T.frame store.new ≡ T.frame store.old) }
+    ensures keeps { IsSame T.HasElements store.old store.new }
+    ensures borrowed { KeepsFrame T.Counted store.old store.new }
     ensures cause { HasStopCause (T.elements store.old) (T.extents store.old)
         (T.faults store.old) (T.faults store.new) result }
 {

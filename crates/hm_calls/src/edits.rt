@@ -2,13 +2,11 @@
 ghost use Rattle.std.specs.Prelude.{◌≡◌, ◌+◌, ◌≤◌, IfOk, IsFalse, OnOk};
 ghost use Rattle.hm_types.specs.Space.{nothing};
 ghost use Rattle.hm_types.specs.declared.limits.TheConstants.{GREATEST_ID};
-ghost use Rattle.hm_key.specs.Balance.{Balanced};
-ghost use Rattle.hm_key.specs.Stores.{Keeps, Same, SameContent};
+ghost use Rattle.hm_key.specs.Members.{HasSameContent, InBalance, IsSame, KeepsTold};
 ghost use Rattle.hm_model.specs.Call.{Call};
 ghost use Rattle.hm_model.specs.declared.reply.Reply.TheVariants.{Done as done};
 ghost use Rattle.hm_calls.specs.Due.{space_for};
-ghost use Rattle.hm_calls.specs.Edits.{HasAllReserves, IsEdit, all_reserves, command_for};
-ghost use Rattle.hm_calls.specs.Edits.{is_there, zones_for};
+ghost use Rattle.hm_calls.specs.Edits.{HasAllReserves, IsEdit, all_reserves, command_for, is_there, zones_for};
 ghost use Rattle.hm_calls.specs.Known.{AreKnown};
 ghost use Rattle.hm_calls.specs.Possible.{Gives, IsNoSpace};
 ghost use Rattle.hm_calls.specs.Replies.{Acts};
@@ -40,7 +38,7 @@ pub(crate) fn edit_file<T: ElementStore + Extents, H: NameHash>(
 ) -> Result<Reply, Stop>
     requires id { (1 ≤ id.0) × (id.0 ≤ GREATEST_ID) }
     requires value { IsEdit edit }
-    requires balanced { Balanced (T.elements store.old) (T.extents store.old) }
+    requires balanced { InBalance T.HasElements store.old }
     requires known { AreKnown (T.elements store.old) (T.extents store.old) id.0 }
     ensures answers { Acts T.elements T.mark T.extents T.room T.free (H.hash_of hash.now) id.0
         (λ (call : Call). call.command ≡ command_for edit.entry word.now) store.old store.new result }
@@ -48,9 +46,10 @@ pub(crate) fn edit_file<T: ElementStore + Extents, H: NameHash>(
     ensures done { IfOk result (λ reply. reply ≡ done) }
     ensures known { OnOk result (AreKnown (T.elements store.new) (T.extents store.new)
         (id.0 + 1)) }
-    ensures keeps { Keeps T.elements T.extents store.old store.new result }
+    ensures keeps { KeepsTold T.HasElements store.old store.new result }
     ensures room { TakesAtMost T.room T.free all_reserves store.old store.new result
-        × (T.name store.new ≡ T.name store.old) × (T.frame store.new ≡ T.frame store.old) }
+        × (T.name store.new ≡ T.name store.old)
+        × (T.frame store.new ≡ T.frame store.old) }
     ensures cause { HasStopCause (T.elements store.old) (T.extents store.old)
         (T.faults store.old) (T.faults store.new) result }
 {
@@ -80,11 +79,12 @@ fn admit_edit<T: ElementStore + Extents>(store: &mut T, edit: Edit, size: u64) -
     ensures gives { IfRefused result IsNoSpace }
     ensures reserves { OnOk result (IsFalse (is_there edit.entry size) →
         HasAllReserves (T.room store.new)) }
-    ensures content { OnOk result (SameContent T.elements T.mark T.extents store.old store.new) }
+    ensures content { OnOk result (HasSameContent T.HasElements store.old store.new) }
     ensures refused { IfRefused result (λ _.
-        Same T.elements T.mark T.extents T.room T.free store.old store.new) }
+        IsSame T.HasElements store.old store.new) }
     ensures room { TakesAtMost T.room T.free nothing store.old store.new result
-        × (T.name store.new ≡ T.name store.old) × (T.frame store.new ≡ T.frame store.old) }
+        × (T.name store.new ≡ T.name store.old)
+        × (T.frame store.new ≡ T.frame store.old) }
     ensures cause { HasStopCause (T.elements store.old) (T.extents store.old)
         (T.faults store.old) (T.faults store.new) result }
 {

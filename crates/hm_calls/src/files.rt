@@ -1,16 +1,13 @@
 // The bytes of files that become others, and their sizes with them.
 ghost use Rattle.std.specs.Prelude.{◌≡◌, ◌≤◌, IsFalse, OnOk};
-ghost use Rattle.hm_types.specs.Faults.{HasStoreCause};
-ghost use Rattle.hm_types.specs.Space.{Spends};
 ghost use Rattle.hm_types.specs.declared.limits.TheConstants.{MOST_FILE_BYTES as most_bytes};
-ghost use Rattle.hm_key.specs.Balance.{Balanced, content_of};
-ghost use Rattle.hm_key.specs.Stores.{Keeps};
-ghost use Rattle.hm_cursor.specs.Told.{HasReadingCause};
-ghost use Rattle.hm_cursor.specs.Write.{Writes};
+ghost use Rattle.hm_key.specs.Members.{HasContentCause, InBalance, KeepsFrame, KeepsTold, SpendsAtMost};
+ghost use Rattle.hm_cursor.specs.Told.{ReadsWithCause};
+ghost use Rattle.hm_cursor.specs.Write.{WritesStore};
 ghost use Rattle.hm_files.specs.Close.{AreOlderIn};
 ghost use Rattle.hm_files.specs.Put.{HasBlockRoom, block_space};
-ghost use Rattle.hm_calls.specs.Edits.{ChangesBytes, ChangesFile, HasAllReserves, IsEdit, all_reserves};
-ghost use Rattle.hm_calls.specs.Edits.{edited, end_of, is_there, size_after};
+ghost use Rattle.hm_calls.specs.Edits.{ChangesBytes, ChangesFile, HasAllReserves, IsEdit, all_reserves, edited};
+ghost use Rattle.hm_calls.specs.Edits.{end_of, is_there, size_after};
 ghost use Rattle.hm_calls.specs.Known.{AreBelowIn};
 
 use crate::edit::Edit;
@@ -33,19 +30,17 @@ pub(crate) fn change_file<T: ElementStore + Extents>(
 ) -> Result<(), Fault>
     requires id { 1 ≤ id.0 }
     requires values { IsEdit edit × (end_of edit ≤ most_bytes) }
-    requires balanced { Balanced (T.elements store.old) (T.extents store.old) }
+    requires balanced { InBalance T.HasElements store.old }
     requires below { AreBelowIn (T.elements store.old) (T.extents store.old)
         file.now.at.pfs.0 id.0 }
     requires room { IsFalse (is_there edit size) → HasAllReserves (T.room store.old) }
-    ensures ok { OnOk result (Writes T.elements T.extents
+    ensures ok { OnOk result (WritesStore T.HasElements
         (ChangesFile file.now.at.pfs.0 file.now.at.object.0 id.0 size (edited edit.entry))
         store.old store.new) }
-    ensures keeps { Keeps T.elements T.extents store.old store.new result }
-    ensures space { Spends T.room T.free all_reserves store.old store.new }
-    ensures borrowed { (T.name store.new ≡ T.name store.old)
-        × (T.frame store.new ≡ T.frame store.old) }
-    ensures cause { HasReadingCause (T.elements store.old) (T.extents store.old)
-        (T.faults store.old) (T.faults store.new) result }
+    ensures keeps { KeepsTold T.HasElements store.old store.new result }
+    ensures space { SpendsAtMost T.HasElements all_reserves store.old store.new }
+    ensures borrowed { KeepsFrame T.Counted store.old store.new }
+    ensures cause { ReadsWithCause T.HasElements store.old store.new result }
 {
     if edit.is_there(size) {
         return Ok(());
@@ -70,19 +65,17 @@ fn put_edit<T: ElementStore + Extents>(
 ) -> Result<(), Fault>
     requires id { 1 ≤ id.0 }
     requires values { IsEdit edit × (end_of edit ≤ most_bytes) }
-    requires balanced { Balanced (T.elements store.old) (T.extents store.old) }
+    requires balanced { InBalance T.HasElements store.old }
     requires older { AreOlderIn (T.elements store.old) (T.extents store.old)
         pfs.0 obj.0 id.0 0 }
     requires room { HasBlockRoom (T.room store.old) 6 }
-    ensures ok { OnOk result (Writes T.elements T.extents
+    ensures ok { OnOk result (WritesStore T.HasElements
         (ChangesBytes pfs.0 obj.0 id.0 size (size_after edit.entry size) (edited edit.entry))
         store.old store.new) }
-    ensures keeps { Keeps T.elements T.extents store.old store.new result }
-    ensures space { Spends T.room T.free (block_space 6) store.old store.new }
-    ensures borrowed { (T.name store.new ≡ T.name store.old)
-        × (T.frame store.new ≡ T.frame store.old) }
-    ensures cause { HasStoreCause (content_of (T.elements store.old) (T.extents store.old))
-        (T.faults store.old) (T.faults store.new) result }
+    ensures keeps { KeepsTold T.HasElements store.old store.new result }
+    ensures space { SpendsAtMost T.HasElements (block_space 6) store.old store.new }
+    ensures borrowed { KeepsFrame T.Counted store.old store.new }
+    ensures cause { HasContentCause T.HasElements store.old store.new result }
 {
     match edit {
         Edit::Write(offset, bytes) => {

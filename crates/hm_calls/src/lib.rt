@@ -1,5 +1,6 @@
 //! The calls on names and on the bytes of files: what each answers, and what it does to the elements
-//! of a store. `pfs_status` tells of a pseudo file system, and `make_system` makes one.
+//! of a store. `pfs_status` tells of a pseudo file system, `make_system` makes one, and `open_prune`
+//! opens the work of a prune; `answer_call` answers a call of any of these kinds.
 #![tactic(auto)]
 
 mod answered;

@@ -3,9 +3,8 @@ ghost use Rattle.std.specs.Prelude.{◌≡◌, ◌≤◌, ◌<◌, ◌-◌, ◌^
 ghost use Rattle.hm_types.specs.declared.limits.TheConstants.{GREATEST_ID};
 ghost use Rattle.hm_types.specs.Space.{nothing};
 ghost use Rattle.hm_path.specs.declared.part.Part.{Part as PathPart};
-ghost use Rattle.hm_key.specs.Balance.{Balanced};
 ghost use Rattle.hm_key.specs.Counts.{Counts};
-ghost use Rattle.hm_key.specs.Stores.{Keeps, Same, SameContent};
+ghost use Rattle.hm_key.specs.Members.{HasSameContent, InBalance, IsSame, KeepsFrame, KeepsTold};
 ghost use Rattle.hm_model.specs.Call.{Call};
 ghost use Rattle.hm_model.specs.Sites.{Parts};
 ghost use Rattle.hm_model.specs.declared.command.Command.TheVariants.{Ln as ln};
@@ -48,7 +47,7 @@ pub(crate) fn link<T: ElementStore + Extents, H: NameHash>(
     id: Id,
 ) -> Result<Reply, Stop>
     requires id { (1 ≤ id.0) × (id.0 ≤ GREATEST_ID) }
-    requires balanced { Balanced (T.elements store.old) (T.extents store.old) }
+    requires balanced { InBalance T.HasElements store.old }
     requires known { AreKnown (T.elements store.old) (T.extents store.old) id.0 }
     ensures answers { Acts T.elements T.mark T.extents T.room T.free (H.hash_of hash.now) id.0
         (λ (call : Call). call.command ≡ ln old.now new.now) store.old store.new result }
@@ -56,9 +55,10 @@ pub(crate) fn link<T: ElementStore + Extents, H: NameHash>(
     ensures done { IfOk result (λ reply. reply ≡ done) }
     ensures known { OnOk result (AreKnown (T.elements store.new) (T.extents store.new)
         (id.0 + 1)) }
-    ensures keeps { Keeps T.elements T.extents store.old store.new result }
+    ensures keeps { KeepsTold T.HasElements store.old store.new result }
     ensures room { TakesAtMost T.room T.free reserves store.old store.new result
-        × (T.name store.new ≡ T.name store.old) × (T.frame store.new ≡ T.frame store.old) }
+        × (T.name store.new ≡ T.name store.old)
+        × (T.frame store.new ≡ T.frame store.old) }
     ensures cause { HasStopCause (T.elements store.old) (T.extents store.old)
         (T.faults store.old) (T.faults store.new) result }
 {
@@ -101,7 +101,7 @@ fn reach_linked<T: ElementStore + Extents, H: NameHash>(
     new: NewName,
     course: Course,
 ) -> Result<Linked, Stop>
-    requires balanced { Balanced (T.elements store.old) (T.extents store.old) }
+    requires balanced { InBalance T.HasElements store.old }
     ensures places { (old word : List ℕ) (more : List PathPart) → IsNewName parts.now more new.entry →
         InScenes (H.hash_of hash.now) course (T.elements store.old) (T.extents store.old) (λ scene.
         (busy : Option ℕ) → AnswersAll (place_checks (call_in (H.hash_of hash.now) (ln old word)
@@ -115,9 +115,8 @@ fn reach_linked<T: ElementStore + Extents, H: NameHash>(
         AreBelowIn (T.elements store.old) (T.extents store.old) found.directory.at.pfs.0 id) }
     ensures gives { (more : List PathPart) → IsNewName parts.now more new.entry →
         IfRefused result (IsAmong on_a_link) }
-    ensures keeps { Same T.elements T.mark T.extents T.room T.free store.old store.new }
-    ensures borrowed { (T.name store.new ≡ T.name store.old)
-        × (T.frame store.new ≡ T.frame store.old) }
+    ensures keeps { IsSame T.HasElements store.old store.new }
+    ensures borrowed { KeepsFrame T.Counted store.old store.new }
     ensures cause { HasStopCause (T.elements store.old) (T.extents store.old)
         (T.faults store.old) (T.faults store.new) result }
 {
@@ -138,7 +137,7 @@ fn check_linked<T: ElementStore + Extents, H: NameHash>(
     found: &Linked,
     name: &Name,
 ) -> Result<Spot, Stop>
-    requires balanced { Balanced (T.elements store.old) (T.extents store.old) }
+    requires balanced { InBalance T.HasElements store.old }
     ensures checks { (course : Way) →
         InScenes (H.hash_of hash.now) course (T.elements store.old) (T.extents store.old)
         (AreSeen found.now) →
@@ -154,11 +153,12 @@ fn check_linked<T: ElementStore + Extents, H: NameHash>(
     ensures links { OnOk result (IfSome found.now.object.inode (λ inode. inode.links < 2 ^ 32 - 1)) }
     ensures gives { IfRefused result (IsAmong on_a_link) }
     ensures reserves { OnOk result (HasReserves (T.room store.new)) }
-    ensures content { OnOk result (SameContent T.elements T.mark T.extents store.old store.new) }
+    ensures content { OnOk result (HasSameContent T.HasElements store.old store.new) }
     ensures refused { IfRefused result (λ _.
-        Same T.elements T.mark T.extents T.room T.free store.old store.new) }
+        IsSame T.HasElements store.old store.new) }
     ensures room { TakesAtMost T.room T.free nothing store.old store.new result
-        × (T.name store.new ≡ T.name store.old) × (T.frame store.new ≡ T.frame store.old) }
+        × (T.name store.new ≡ T.name store.old)
+        × (T.frame store.new ≡ T.frame store.old) }
     ensures cause { HasStopCause (T.elements store.old) (T.extents store.old)
         (T.faults store.old) (T.faults store.new) result }
 {

@@ -1,8 +1,7 @@
 // The calls that look: `ls`, `cat`, `stat` and `readlink`.
 ghost use Rattle.std.specs.Prelude.{◌≡◌, ◌≤◌};
 ghost use Rattle.hm_types.specs.declared.limits.TheConstants.{GREATEST_ID};
-ghost use Rattle.hm_key.specs.Balance.{Balanced};
-ghost use Rattle.hm_key.specs.Stores.{Same};
+ghost use Rattle.hm_key.specs.Members.{InBalance, IsSame, KeepsFrame};
 ghost use Rattle.hm_model.specs.Call.{Call};
 ghost use Rattle.hm_model.specs.declared.command.Command.TheVariants.{Cat as cat, Ls as ls, Readlink as readlink};
 ghost use Rattle.hm_model.specs.declared.command.Command.TheVariants.{Stat as stat};
@@ -31,13 +30,12 @@ pub(crate) fn list_names<T: ElementStore + Extents, H: NameHash>(
     id: Id,
 ) -> Result<Reply, Stop>
     requires id { (1 ≤ id.0) × (id.0 ≤ GREATEST_ID) }
-    requires balanced { Balanced (T.elements store.old) (T.extents store.old) }
+    requires balanced { InBalance T.HasElements store.old }
     ensures answers { Looks T.elements T.mark T.extents T.room T.free (H.hash_of hash.now) id.0
         (λ (call : Call). call.command ≡ ls word.now) store.old store.new result }
     ensures gives { Gives id.0 (ls word.now) result }
-    ensures keeps { Same T.elements T.mark T.extents T.room T.free store.old store.new }
-    ensures borrowed { (T.name store.new ≡ T.name store.old)
-        × (T.frame store.new ≡ T.frame store.old) }
+    ensures keeps { IsSame T.HasElements store.old store.new }
+    ensures borrowed { KeepsFrame T.Counted store.old store.new }
     ensures cause { HasStopCause (T.elements store.old) (T.extents store.old)
         (T.faults store.old) (T.faults store.new) result }
 {
@@ -61,13 +59,12 @@ pub(crate) fn tell_bytes<T: ElementStore + Extents, H: NameHash>(
     id: Id,
 ) -> Result<Reply, Stop>
     requires id { (1 ≤ id.0) × (id.0 ≤ GREATEST_ID) }
-    requires balanced { Balanced (T.elements store.old) (T.extents store.old) }
+    requires balanced { InBalance T.HasElements store.old }
     ensures answers { Looks T.elements T.mark T.extents T.room T.free (H.hash_of hash.now) id.0
         (λ (call : Call). call.command ≡ cat word.now offset count) store.old store.new result }
     ensures gives { Gives id.0 (cat word.now offset count) result }
-    ensures keeps { Same T.elements T.mark T.extents T.room T.free store.old store.new }
-    ensures borrowed { (T.name store.new ≡ T.name store.old)
-        × (T.frame store.new ≡ T.frame store.old) }
+    ensures keeps { IsSame T.HasElements store.old store.new }
+    ensures borrowed { KeepsFrame T.Counted store.old store.new }
     ensures cause { HasStopCause (T.elements store.old) (T.extents store.old)
         (T.faults store.old) (T.faults store.new) result }
 {
@@ -92,13 +89,12 @@ pub(crate) fn tell_status<T: ElementStore + Extents, H: NameHash>(
     id: Id,
 ) -> Result<Reply, Stop>
     requires id { (1 ≤ id.0) × (id.0 ≤ GREATEST_ID) }
-    requires balanced { Balanced (T.elements store.old) (T.extents store.old) }
+    requires balanced { InBalance T.HasElements store.old }
     ensures answers { Looks T.elements T.mark T.extents T.room T.free (H.hash_of hash.now) id.0
         (λ (call : Call). call.command ≡ stat word.now) store.old store.new result }
     ensures gives { Gives id.0 (stat word.now) result }
-    ensures keeps { Same T.elements T.mark T.extents T.room T.free store.old store.new }
-    ensures borrowed { (T.name store.new ≡ T.name store.old)
-        × (T.frame store.new ≡ T.frame store.old) }
+    ensures keeps { IsSame T.HasElements store.old store.new }
+    ensures borrowed { KeepsFrame T.Counted store.old store.new }
     ensures cause { HasStopCause (T.elements store.old) (T.extents store.old)
         (T.faults store.old) (T.faults store.new) result }
 {
@@ -127,13 +123,12 @@ pub(crate) fn tell_target<T: ElementStore + Extents, H: NameHash>(
     id: Id,
 ) -> Result<Reply, Stop>
     requires id { (1 ≤ id.0) × (id.0 ≤ GREATEST_ID) }
-    requires balanced { Balanced (T.elements store.old) (T.extents store.old) }
+    requires balanced { InBalance T.HasElements store.old }
     ensures answers { Looks T.elements T.mark T.extents T.room T.free (H.hash_of hash.now) id.0
         (λ (call : Call). call.command ≡ readlink word.now) store.old store.new result }
     ensures gives { Gives id.0 (readlink word.now) result }
-    ensures keeps { Same T.elements T.mark T.extents T.room T.free store.old store.new }
-    ensures borrowed { (T.name store.new ≡ T.name store.old)
-        × (T.frame store.new ≡ T.frame store.old) }
+    ensures keeps { IsSame T.HasElements store.old store.new }
+    ensures borrowed { KeepsFrame T.Counted store.old store.new }
     ensures cause { HasStopCause (T.elements store.old) (T.extents store.old)
         (T.faults store.old) (T.faults store.new) result }
 {

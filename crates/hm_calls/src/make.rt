@@ -1,8 +1,7 @@
 // The calls that make an object: `mkdir`, `touch`, `symlink` and `snapshot`.
 ghost use Rattle.std.specs.Prelude.{◌≡◌, ◌+◌, ◌≤◌, IfOk, OnOk};
 ghost use Rattle.hm_types.specs.declared.limits.TheConstants.{GREATEST_ID};
-ghost use Rattle.hm_key.specs.Balance.{Balanced};
-ghost use Rattle.hm_key.specs.Stores.{Keeps};
+ghost use Rattle.hm_key.specs.Members.{InBalance, KeepsTold};
 ghost use Rattle.hm_model.specs.Call.{Call};
 ghost use Rattle.hm_model.specs.declared.reply.Reply.TheVariants.{Done as done};
 ghost use Rattle.hm_calls.specs.Known.{AreKnown};
@@ -38,7 +37,7 @@ pub(crate) fn make<T: ElementStore + Extents, H: NameHash>(
 ) -> Result<Reply, Stop>
     requires id { (1 ≤ id.0) × (id.0 ≤ GREATEST_ID) }
     requires value { IsNewObject new }
-    requires balanced { Balanced (T.elements store.old) (T.extents store.old) }
+    requires balanced { InBalance T.HasElements store.old }
     requires known { AreKnown (T.elements store.old) (T.extents store.old) id.0 }
     ensures answers { Acts T.elements T.mark T.extents T.room T.free (H.hash_of hash.now) id.0
         (λ (call : Call). call.command ≡ command_by new.entry word.now) store.old store.new result }
@@ -46,9 +45,10 @@ pub(crate) fn make<T: ElementStore + Extents, H: NameHash>(
     ensures done { IfOk result (λ reply. reply ≡ done) }
     ensures known { OnOk result (AreKnown (T.elements store.new) (T.extents store.new)
         (id.0 + 1)) }
-    ensures keeps { Keeps T.elements T.extents store.old store.new result }
+    ensures keeps { KeepsTold T.HasElements store.old store.new result }
     ensures room { TakesAtMost T.room T.free reserves store.old store.new result
-        × (T.name store.new ≡ T.name store.old) × (T.frame store.new ≡ T.frame store.old) }
+        × (T.name store.new ≡ T.name store.old)
+        × (T.frame store.new ≡ T.frame store.old) }
     ensures cause { HasStopCause (T.elements store.old) (T.extents store.old)
         (T.faults store.old) (T.faults store.new) result }
 {

@@ -3,8 +3,7 @@ ghost use Rattle.std.specs.Prelude.{◌≡◌, ◌≤◌, ℕ, List, [], ◌∷�
 ghost use Rattle.hm_types.specs.Space.{nothing};
 ghost use Rattle.hm_types.specs.declared.limits.TheConstants.{GREATEST_ID};
 ghost use Rattle.hm_path.specs.declared.part.Part.{Part as PathPart};
-ghost use Rattle.hm_key.specs.Balance.{Balanced};
-ghost use Rattle.hm_key.specs.Stores.{Keeps, Same, SameContent};
+ghost use Rattle.hm_key.specs.Members.{HasSameContent, InBalance, IsSame, KeepsFrame, KeepsTold};
 ghost use Rattle.hm_model.specs.Call.{Call};
 ghost use Rattle.hm_model.specs.Due.{refuse_if};
 ghost use Rattle.hm_model.specs.Sites.{Parts, last_name};
@@ -13,7 +12,8 @@ ghost use Rattle.hm_model.specs.declared.reply.Reply.TheVariants.{Done as done, 
 ghost use Rattle.hm_dirs.specs.declared.position.Course.{Course as Way};
 ghost use Rattle.hm_calls.specs.Known.{AreBelowIn, AreKnown};
 ghost use Rattle.hm_calls.specs.Links.{AreSeen};
-ghost use Rattle.hm_calls.specs.Moves.{HasRoomToMove, IsMovable, IsMoveOf, LeadsBy, TellsMoved, beside_checks, leads_to, move_checks, on_a_move, over_checks, seen_of};
+ghost use Rattle.hm_calls.specs.Moves.{HasRoomToMove, IsMovable, IsMoveOf, LeadsBy, TellsMoved, beside_checks};
+ghost use Rattle.hm_calls.specs.Moves.{leads_to, move_checks, on_a_move, over_checks, seen_of};
 ghost use Rattle.hm_calls.specs.Possible.{Gives};
 ghost use Rattle.hm_calls.specs.Replies.{Acts};
 ghost use Rattle.hm_calls.specs.Scenes.{InScenes, call_in};
@@ -48,7 +48,7 @@ pub(crate) fn move_to<T: ElementStore + Extents, H: NameHash>(
     id: Id,
 ) -> Result<Reply, Stop>
     requires id { (1 ≤ id.0) × (id.0 ≤ GREATEST_ID) }
-    requires balanced { Balanced (T.elements store.old) (T.extents store.old) }
+    requires balanced { InBalance T.HasElements store.old }
     requires known { AreKnown (T.elements store.old) (T.extents store.old) id.0 }
     ensures answers { Acts T.elements T.mark T.extents T.room T.free (H.hash_of hash.now) id.0
         (λ (call : Call). call.command ≡ mv old.now new.now) store.old store.new result }
@@ -56,9 +56,10 @@ pub(crate) fn move_to<T: ElementStore + Extents, H: NameHash>(
     ensures done { IfOk result (λ reply. reply ≡ done) }
     ensures known { OnOk result (AreKnown (T.elements store.new) (T.extents store.new)
         (id.0 + 1)) }
-    ensures keeps { Keeps T.elements T.extents store.old store.new result }
+    ensures keeps { KeepsTold T.HasElements store.old store.new result }
     ensures room { TakesAtMost T.room T.free reserves store.old store.new result
-        × (T.name store.new ≡ T.name store.old) × (T.frame store.new ≡ T.frame store.old) }
+        × (T.name store.new ≡ T.name store.old)
+        × (T.frame store.new ≡ T.frame store.old) }
     ensures cause { HasStopCause (T.elements store.old) (T.extents store.old)
         (T.faults store.old) (T.faults store.new) result }
 {
@@ -102,7 +103,7 @@ fn reach_moved<T: ElementStore + Extents, H: NameHash>(
     new: NewName,
     course: Course,
 ) -> Result<Moving, Stop>
-    requires balanced { Balanced (T.elements store.old) (T.extents store.old) }
+    requires balanced { InBalance T.HasElements store.old }
     ensures places { (old word name : List ℕ) (more : List PathPart) →
         last_name parts.now ≡ Some name → IsNewName parts.now more new.entry →
         InScenes (H.hash_of hash.now) course (T.elements store.old) (T.extents store.old) (λ scene.
@@ -119,9 +120,8 @@ fn reach_moved<T: ElementStore + Extents, H: NameHash>(
         AreBelowIn (T.elements store.old) (T.extents store.old) found.to.at.pfs.0 id) }
     ensures gives { (name : List ℕ) (more : List PathPart) → last_name parts.now ≡ Some name →
         IsNewName parts.now more new.entry → IfRefused result (IsAmong on_a_move) }
-    ensures keeps { Same T.elements T.mark T.extents T.room T.free store.old store.new }
-    ensures borrowed { (T.name store.new ≡ T.name store.old)
-        × (T.frame store.new ≡ T.frame store.old) }
+    ensures keeps { IsSame T.HasElements store.old store.new }
+    ensures borrowed { KeepsFrame T.Counted store.old store.new }
     ensures cause { HasStopCause (T.elements store.old) (T.extents store.old)
         (T.faults store.old) (T.faults store.new) result }
 {
@@ -151,7 +151,7 @@ fn check_moved<T: ElementStore + Extents, H: NameHash>(
     found: &Moving,
     name: &Name,
 ) -> Result<Move, Stop>
-    requires balanced { Balanced (T.elements store.old) (T.extents store.old) }
+    requires balanced { InBalance T.HasElements store.old }
     ensures checks { (course : Way) →
         InScenes (H.hash_of hash.now) course (T.elements store.old) (T.extents store.old)
         (AreSeen (seen_of found.now)) →
@@ -166,11 +166,12 @@ fn check_moved<T: ElementStore + Extents, H: NameHash>(
     ensures one_pfs { OnOk result (found.now.from.at.pfs ≡ found.now.to.at.pfs) }
     ensures gives { IfRefused result (IsAmong on_a_move) }
     ensures reserves { IfOk result (λ change. HasRoomToMove change (T.room store.new)) }
-    ensures content { OnOk result (SameContent T.elements T.mark T.extents store.old store.new) }
+    ensures content { OnOk result (HasSameContent T.HasElements store.old store.new) }
     ensures refused { IfRefused result (λ _.
-        Same T.elements T.mark T.extents T.room T.free store.old store.new) }
+        IsSame T.HasElements store.old store.new) }
     ensures room { TakesAtMost T.room T.free nothing store.old store.new result
-        × (T.name store.new ≡ T.name store.old) × (T.frame store.new ≡ T.frame store.old) }
+        × (T.name store.new ≡ T.name store.old)
+        × (T.frame store.new ≡ T.frame store.old) }
     ensures cause { HasStopCause (T.elements store.old) (T.extents store.old)
         (T.faults store.old) (T.faults store.new) result }
 {
@@ -190,7 +191,7 @@ fn check_beside<T: ElementStore + Extents, H: NameHash>(
     found: &Moving,
     name: &Name,
 ) -> Result<Move, Stop>
-    requires balanced { Balanced (T.elements store.old) (T.extents store.old) }
+    requires balanced { InBalance T.HasElements store.old }
     ensures checks { (course : Way) →
         InScenes (H.hash_of hash.now) course (T.elements store.old) (T.extents store.old)
         (AreSeen (seen_of found.now)) →
@@ -205,11 +206,12 @@ fn check_beside<T: ElementStore + Extents, H: NameHash>(
         IsMoveOf (H.hash_of hash.now) name.now found.now change scene)) }
     ensures gives { IfRefused result (IsAmong on_a_move) }
     ensures reserves { IfOk result (λ change. HasRoomToMove change (T.room store.new)) }
-    ensures content { OnOk result (SameContent T.elements T.mark T.extents store.old store.new) }
+    ensures content { OnOk result (HasSameContent T.HasElements store.old store.new) }
     ensures refused { IfRefused result (λ _.
-        Same T.elements T.mark T.extents T.room T.free store.old store.new) }
+        IsSame T.HasElements store.old store.new) }
     ensures room { TakesAtMost T.room T.free nothing store.old store.new result
-        × (T.name store.new ≡ T.name store.old) × (T.frame store.new ≡ T.frame store.old) }
+        × (T.name store.new ≡ T.name store.old)
+        × (T.frame store.new ≡ T.frame store.old) }
     ensures cause { HasStopCause (T.elements store.old) (T.extents store.old)
         (T.faults store.old) (T.faults store.new) result }
 {
@@ -225,7 +227,7 @@ fn check_over<T: ElementStore + Extents>(
     key: u64,
     there: Obj,
 ) -> Result<Move, Stop>
-    requires balanced { Balanced (T.elements store.old) (T.extents store.old) }
+    requires balanced { InBalance T.HasElements store.old }
     ensures checks { (hash : List ℕ → ℕ) (course : Way) →
         InScenes hash course (T.elements store.old) (T.extents store.old) (AreSeen (seen_of found.now)) →
         InScenes hash course (T.elements store.old) (T.extents store.old) (λ scene. (call : Call) →
@@ -237,11 +239,12 @@ fn check_over<T: ElementStore + Extents>(
         LeadsBy name found.now key there scene → IsMoveOf hash name found.now change scene)) }
     ensures gives { IfRefused result (IsAmong on_a_move) }
     ensures reserves { IfOk result (λ change. HasRoomToMove change (T.room store.new)) }
-    ensures content { OnOk result (SameContent T.elements T.mark T.extents store.old store.new) }
+    ensures content { OnOk result (HasSameContent T.HasElements store.old store.new) }
     ensures refused { IfRefused result (λ _.
-        Same T.elements T.mark T.extents T.room T.free store.old store.new) }
+        IsSame T.HasElements store.old store.new) }
     ensures room { TakesAtMost T.room T.free nothing store.old store.new result
-        × (T.name store.new ≡ T.name store.old) × (T.frame store.new ≡ T.frame store.old) }
+        × (T.name store.new ≡ T.name store.old)
+        × (T.frame store.new ≡ T.frame store.old) }
     ensures cause { HasStopCause (T.elements store.old) (T.extents store.old)
         (T.faults store.old) (T.faults store.new) result }
 {

@@ -1,19 +1,21 @@
 // `pfs-master` and `pfs-slave`: a new pseudo file system, and a link to it.
-ghost use Rattle.std.specs.Prelude.{◌≡◌, ◌≢◌, ◌⊎◌, ◌+◌, ◌≤◌, ℕ, List, [], ◌∷◌, Option, IfErr, IfOk, IfSome, OnOk, Some};
+ghost use Rattle.std.specs.Prelude.{◌≡◌, ◌≢◌, ◌⊎◌, ◌+◌, ◌≤◌, ℕ, List, [], ◌∷◌, Option, IfErr, IfOk, IfSome, OnOk};
+ghost use Rattle.std.specs.Prelude.{Some};
 ghost use Rattle.hm_types.specs.Name.{IsName};
-ghost use Rattle.hm_types.specs.Space.{Spends, nothing};
+ghost use Rattle.hm_types.specs.Space.{nothing};
 ghost use Rattle.hm_types.specs.declared.limits.TheConstants.{GREATEST_ID};
 ghost use Rattle.hm_path.specs.declared.part.Part.{Part as PathPart};
-ghost use Rattle.hm_key.specs.Balance.{Balanced, content_of};
+ghost use Rattle.hm_key.specs.Balance.{content_of};
 ghost use Rattle.hm_key.specs.Charges.{Charges};
 ghost use Rattle.hm_key.specs.Counts.{Counts};
-ghost use Rattle.hm_key.specs.Stores.{Keeps, Same, SameContent};
-ghost use Rattle.hm_cursor.specs.Told.{HasReadingCause, OnBalanced, fulls};
-ghost use Rattle.hm_cursor.specs.Write.{Writes};
+ghost use Rattle.hm_key.specs.Members.{HasSameContent, InBalance, IsSame, KeepsFrame, KeepsTold, SpendsAtMost};
+ghost use Rattle.hm_cursor.specs.Told.{OnBalanced, ReadsWithCause, fulls};
+ghost use Rattle.hm_cursor.specs.Write.{WritesStore};
 ghost use Rattle.hm_model.specs.Sites.{Parts};
 ghost use Rattle.hm_model.specs.View.{View};
 ghost use Rattle.hm_model.specs.Volume.{Volume};
-ghost use Rattle.hm_model.specs.declared.reply.Reply.TheVariants.{MadePfs as made_pfs, NotFound as not_found, PfsFull as pfs_full};
+ghost use Rattle.hm_model.specs.declared.reply.Reply.TheVariants.{MadePfs as made_pfs, NotFound as not_found};
+ghost use Rattle.hm_model.specs.declared.reply.Reply.TheVariants.{PfsFull as pfs_full};
 ghost use Rattle.hm_volume.specs.Shown.{ShowsAs};
 ghost use Rattle.hm_dirs.specs.Names.{IsSpot, first_key};
 ghost use Rattle.hm_dirs.specs.Walk.{Scene};
@@ -23,19 +25,9 @@ ghost use Rattle.hm_pfs.specs.Records.{IsLeastUnused};
 ghost use Rattle.hm_pfs.specs.Systems.{IsUnmadeIn};
 ghost use Rattle.hm_calls.specs.Changes.{HasSystem};
 ghost use Rattle.hm_calls.specs.Known.{AreBelowIn, AreKnown};
-ghost use Rattle.hm_calls.specs.NewSystems.{
-  Founds,
-  HasKnownNumbers,
-  IsFounded,
-  IsNewThere,
-  IsReadThere,
-  PutsLinked,
-  name_checks,
-  on_a_system,
-  pfs_check,
-  system_checks,
-  system_command,
-};
+ghost use Rattle.hm_calls.specs.NewSystems.{Founds, HasKnownNumbers, IsFounded, IsNewThere, IsReadThere};
+ghost use Rattle.hm_calls.specs.NewSystems.{PutsLinked, name_checks, on_a_system, pfs_check, system_checks};
+ghost use Rattle.hm_calls.specs.NewSystems.{system_command};
 ghost use Rattle.hm_calls.specs.Possible.{IsGiven};
 ghost use Rattle.hm_calls.specs.Scenes.{InScenes, call_in};
 ghost use Rattle.hm_calls.specs.Space.{TakesAtMost};
@@ -91,20 +83,18 @@ pub fn make_system<T: ElementStore + Extents, H: NameHash>(
     numbers: u32,
 ) -> Result<(Reply, Option<Pfs>), Fault>
     requires id { (1 ≤ id.0) × (id.0 ≤ GREATEST_ID) }
-    requires balanced { Balanced (T.elements store.old) (T.extents store.old) }
+    requires balanced { InBalance T.HasElements store.old }
     requires known { AreKnown (T.elements store.old) (T.extents store.old) id.0 }
     ensures founded { IfOk result (IsFounded T.elements T.mark T.extents T.room T.free
         (H.hash_of hash.now) id.0 numbers new path.now shared store.old store.new) }
     ensures possible { IfOk result (λ told. IsGiven id.0 (system_command new path.now shared) told.0) }
     ensures known { OnOk result (AreKnown (T.elements store.new) (T.extents store.new)
         (id.0 + 1)) }
-    ensures keeps { Keeps T.elements T.extents store.old store.new result }
+    ensures keeps { KeepsTold T.HasElements store.old store.new result }
     ensures room { (zone : ℕ) → T.room store.old zone ≤ T.room store.new zone + reserves zone }
     ensures charges { OnOk result (Charges T.room T.free reserves store.old store.new) }
-    ensures borrowed { (T.name store.new ≡ T.name store.old)
-        × (T.frame store.new ≡ T.frame store.old) }
-    ensures cause { HasReadingCause (T.elements store.old) (T.extents store.old)
-        (T.faults store.old) (T.faults store.new) result }
+    ensures borrowed { KeepsFrame T.Counted store.old store.new }
+    ensures cause { ReadsWithCause T.HasElements store.old store.new result }
 {
     match found_system(alloc, store, hash, new, path, shared, id, numbers) {
         Ok(number) => Ok((Reply::MadePfs { number }, Some(number))),
@@ -124,7 +114,7 @@ fn found_system<T: ElementStore + Extents, H: NameHash>(
     numbers: u32,
 ) -> Result<Pfs, Stop>
     requires id { (1 ≤ id.0) × (id.0 ≤ GREATEST_ID) }
-    requires balanced { Balanced (T.elements store.old) (T.extents store.old) }
+    requires balanced { InBalance T.HasElements store.old }
     requires known { AreKnown (T.elements store.old) (T.extents store.old) id.0 }
     ensures founds { Founds T.elements T.mark T.extents T.room T.free (H.hash_of hash.now) id.0
         numbers new word.now shared store.old store.new result }
@@ -132,9 +122,10 @@ fn found_system<T: ElementStore + Extents, H: NameHash>(
     ensures given { IfOk result (λ pfs. IsGiven id.0 (system_command new word.now shared) (made_pfs pfs)) }
     ensures known { OnOk result (AreKnown (T.elements store.new) (T.extents store.new)
         (id.0 + 1)) }
-    ensures keeps { Keeps T.elements T.extents store.old store.new result }
+    ensures keeps { KeepsTold T.HasElements store.old store.new result }
     ensures room { TakesAtMost T.room T.free reserves store.old store.new result
-        × (T.name store.new ≡ T.name store.old) × (T.frame store.new ≡ T.frame store.old) }
+        × (T.name store.new ≡ T.name store.old)
+        × (T.frame store.new ≡ T.frame store.old) }
     ensures cause { HasStopCause (T.elements store.old) (T.extents store.old)
         (T.faults store.old) (T.faults store.new) result }
 {
@@ -172,7 +163,7 @@ fn reach_new<T: ElementStore + Extents, H: NameHash>(
     named: NewName,
     course: Course,
 ) -> Result<Stand, Stop>
-    requires balanced { Balanced (T.elements store.old) (T.extents store.old) }
+    requires balanced { InBalance T.HasElements store.old }
     ensures places { (parts : List PathPart) (new : NewSystem) (word : List ℕ) (shared : ℕ) →
         IsNewName [] parts named.entry →
         InScenes (H.hash_of hash.now) course (T.elements store.old) (T.extents store.old) (λ scene.
@@ -187,9 +178,8 @@ fn reach_new<T: ElementStore + Extents, H: NameHash>(
         AreBelowIn (T.elements store.old) (T.extents store.old) directory.at.pfs.0 id) }
     ensures gives { (parts : List PathPart) → IsNewName [] parts named.entry →
         IfRefused result (IsAmong on_a_system) }
-    ensures keeps { Same T.elements T.mark T.extents T.room T.free store.old store.new }
-    ensures borrowed { (T.name store.new ≡ T.name store.old)
-        × (T.frame store.new ≡ T.frame store.old) }
+    ensures keeps { IsSame T.HasElements store.old store.new }
+    ensures borrowed { KeepsFrame T.Counted store.old store.new }
     ensures cause { HasStopCause (T.elements store.old) (T.extents store.old)
         (T.faults store.old) (T.faults store.new) result }
 {
@@ -207,7 +197,7 @@ fn check_system<T: ElementStore + Extents, H: NameHash>(
     name: &Name,
     numbers: u32,
 ) -> Result<(Pfs, Spot), Stop>
-    requires balanced { Balanced (T.elements store.old) (T.extents store.old) }
+    requires balanced { InBalance T.HasElements store.old }
     ensures checks { (course : Way) →
         InScenes (H.hash_of hash.now) course (T.elements store.old) (T.extents store.old)
         (IsReadThere directory.now) →
@@ -227,11 +217,12 @@ fn check_system<T: ElementStore + Extents, H: NameHash>(
     ensures apart { IfOk result (λ found. found.0 ≢ directory.now.at.pfs) }
     ensures gives { IfRefused result (IsAmong on_a_system) }
     ensures reserves { OnOk result (HasReserves (T.room store.new)) }
-    ensures content { OnOk result (SameContent T.elements T.mark T.extents store.old store.new) }
+    ensures content { OnOk result (HasSameContent T.HasElements store.old store.new) }
     ensures refused { IfRefused result (λ _.
-        Same T.elements T.mark T.extents T.room T.free store.old store.new) }
+        IsSame T.HasElements store.old store.new) }
     ensures room { TakesAtMost T.room T.free nothing store.old store.new result
-        × (T.name store.new ≡ T.name store.old) × (T.frame store.new ≡ T.frame store.old) }
+        × (T.name store.new ≡ T.name store.old)
+        × (T.frame store.new ≡ T.frame store.old) }
     ensures cause { HasStopCause (T.elements store.old) (T.extents store.old)
         (T.faults store.old) (T.faults store.new) result }
 {
@@ -259,9 +250,8 @@ fn check_numbers<T: ElementStore + Extents>(
         IsLeastUnused (fulls lists) from (Some pfs))) }
     ensures apart { IfOk result (λ pfs. pfs ≢ beside) }
     ensures gives { IfRefused result (λ reply. (reply ≡ pfs_full) ⊎ (reply ≡ not_found)) }
-    ensures keeps { Same T.elements T.mark T.extents T.room T.free store.old store.new }
-    ensures borrowed { (T.name store.new ≡ T.name store.old)
-        × (T.frame store.new ≡ T.frame store.old) }
+    ensures keeps { IsSame T.HasElements store.old store.new }
+    ensures borrowed { KeepsFrame T.Counted store.old store.new }
     ensures cause { HasStopCause (T.elements store.old) (T.extents store.old)
         (T.faults store.old) (T.faults store.new) result }
 {
@@ -288,21 +278,19 @@ fn put_system<T: ElementStore + Extents>(
 ) -> Result<(), Fault>
     requires id { 1 ≤ id.0 }
     requires name { IsName name.now }
-    requires balanced { Balanced (T.elements store.old) (T.extents store.old) }
+    requires balanced { InBalance T.HasElements store.old }
     requires below { AreBelowIn (T.elements store.old) (T.extents store.old)
         directory.now.at.pfs.0 id.0 }
     requires unmade { IsUnmadeIn (T.elements store.old) (T.extents store.old) number.0 id.0 }
     requires apart { number ≢ directory.now.at.pfs }
     requires room { HasReserves (T.room store.old) }
-    ensures ok { (hash : List ℕ → ℕ) → OnOk result (Writes T.elements T.extents
+    ensures ok { (hash : List ℕ → ℕ) → OnOk result (WritesStore T.HasElements
         (PutsLinked hash (place_in directory.now name.now) spot id.0 new number shared)
         store.old store.new) }
-    ensures keeps { Keeps T.elements T.extents store.old store.new result }
-    ensures space { Spends T.room T.free reserves store.old store.new }
-    ensures borrowed { (T.name store.new ≡ T.name store.old)
-        × (T.frame store.new ≡ T.frame store.old) }
-    ensures cause { HasReadingCause (T.elements store.old) (T.extents store.old)
-        (T.faults store.old) (T.faults store.new) result }
+    ensures keeps { KeepsTold T.HasElements store.old store.new result }
+    ensures space { SpendsAtMost T.HasElements reserves store.old store.new }
+    ensures borrowed { KeepsFrame T.Counted store.old store.new }
+    ensures cause { ReadsWithCause T.HasElements store.old store.new result }
 {
     put_pfs_link(alloc, store, directory, spot, name, number, id)?;
     match new {
@@ -323,19 +311,17 @@ fn put_pfs_link<T: ElementStore + Extents>(
 ) -> Result<(), Fault>
     requires id { 1 ≤ id.0 }
     requires name { IsName name.now }
-    requires balanced { Balanced (T.elements store.old) (T.extents store.old) }
+    requires balanced { InBalance T.HasElements store.old }
     requires below { AreBelowIn (T.elements store.old) (T.extents store.old)
         directory.now.at.pfs.0 id.0 }
     requires room { HasReserves (T.room store.old) }
-    ensures ok { (hash : List ℕ → ℕ) → OnOk result (Writes T.elements T.extents
+    ensures ok { (hash : List ℕ → ℕ) → OnOk result (WritesStore T.HasElements
         (PutsObject hash (place_in directory.now name.now) spot id.0
         (pfs_link_of (record { 0 = id.0 }) to)) store.old store.new) }
-    ensures keeps { Keeps T.elements T.extents store.old store.new result }
-    ensures space { Spends T.room T.free (spent 2 304) store.old store.new }
-    ensures borrowed { (T.name store.new ≡ T.name store.old)
-        × (T.frame store.new ≡ T.frame store.old) }
-    ensures cause { HasReadingCause (T.elements store.old) (T.extents store.old)
-        (T.faults store.old) (T.faults store.new) result }
+    ensures keeps { KeepsTold T.HasElements store.old store.new result }
+    ensures space { SpendsAtMost T.HasElements (spent 2 304) store.old store.new }
+    ensures borrowed { KeepsFrame T.Counted store.old store.new }
+    ensures cause { ReadsWithCause T.HasElements store.old store.new result }
 {
     add_pfs_link(alloc, store, directory.at.pfs, Obj(id.0), to, id)?;
     put_name(alloc, store, directory, spot, name, Obj(id.0), PFS_LINK, id)

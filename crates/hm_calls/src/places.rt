@@ -1,7 +1,5 @@
 // Where the paths of a call lead.
 ghost use Rattle.std.specs.Prelude.{◌≡◌, ℕ, List, Bool, false, None, Some, IfOk};
-ghost use Rattle.hm_key.specs.Balance.{Balanced};
-ghost use Rattle.hm_key.specs.Stores.{Same};
 ghost use Rattle.hm_model.specs.Due.{has_id};
 ghost use Rattle.hm_model.specs.Sites.{Parts, in_directory, front_of, last_name, standing_name};
 ghost use Rattle.hm_model.specs.Walk.{Follows as follows, Passed, Stays as stays, step as stepped, walk as walked_along};
@@ -11,6 +9,7 @@ ghost use Rattle.hm_calls.specs.declared.stop.Stop.TheVariants.{Refused as refus
 ghost use Rattle.hm_calls.specs.Places.{IsNamed, IsPlaced, IsReached};
 ghost use Rattle.hm_calls.specs.Possible.{IsLost};
 ghost use Rattle.hm_calls.specs.Stop.{HasStopCause, IfRefused};
+ghost use Rattle.hm_key.specs.Members.{InBalance, IsSame, KeepsFrame};
 
 use crate::stop::Stop;
 use hm_dirs::{Course, Follow, Lost, NameHash, Stand, step, walk};
@@ -29,16 +28,15 @@ pub(crate) fn reach<T: ElementStore + Extents, H: NameHash>(
     follow: Follow,
     course: Course,
 ) -> Result<Stand, Stop>
-    requires balanced { Balanced (T.elements store.old) (T.extents store.old) }
+    requires balanced { InBalance T.HasElements store.old }
     ensures ok { OnShown (T.elements store.old) (T.extents store.old) course (λ scene.
         KeysFit (H.hash_of hash.now) scene.elements → AreDrawn scene.course.last parts.now
         → IsReached scene (mode_of follow)
         (walked_along scene.volume scene.view (mode_of follow) parts.now) result) }
     ensures gives { IfRefused result (IsLost (has_id (Parts parts.now))) }
     ensures now { has_id (Parts parts.now) ≡ false → IfOk result (λ stand. stand.at.when ≡ None) }
-    ensures keeps { Same T.elements T.mark T.extents T.room T.free store.old store.new }
-    ensures borrowed { (T.name store.new ≡ T.name store.old)
-        × (T.frame store.new ≡ T.frame store.old) }
+    ensures keeps { IsSame T.HasElements store.old store.new }
+    ensures borrowed { KeepsFrame T.Counted store.old store.new }
     ensures cause { HasStopCause (T.elements store.old) (T.extents store.old)
         (T.faults store.old) (T.faults store.new) result }
 {
@@ -53,15 +51,14 @@ pub(crate) fn reach_directory<T: ElementStore + Extents, H: NameHash>(
     front: &[Part],
     course: Course,
 ) -> Result<Stand, Stop>
-    requires balanced { Balanced (T.elements store.old) (T.extents store.old) }
+    requires balanced { InBalance T.HasElements store.old }
     ensures ok { OnShown (T.elements store.old) (T.extents store.old) course (λ scene.
         KeysFit (H.hash_of hash.now) scene.elements → AreDrawn scene.course.last front.now
         → (name : List ℕ) → IsPlaced scene name (in_directory scene.view (Some name)
         (walked_along scene.volume scene.view follows front.now)) result) }
     ensures gives { IfRefused result (IsLost (has_id (Parts front.now))) }
-    ensures keeps { Same T.elements T.mark T.extents T.room T.free store.old store.new }
-    ensures borrowed { (T.name store.new ≡ T.name store.old)
-        × (T.frame store.new ≡ T.frame store.old) }
+    ensures keeps { IsSame T.HasElements store.old store.new }
+    ensures borrowed { KeepsFrame T.Counted store.old store.new }
     ensures cause { HasStopCause (T.elements store.old) (T.extents store.old)
         (T.faults store.old) (T.faults store.new) result }
 {
@@ -81,7 +78,7 @@ pub(crate) fn reach_name<T: ElementStore + Extents, H: NameHash>(
     parts: &[Part],
     course: Course,
 ) -> Result<(Stand, Stand), Stop>
-    requires balanced { Balanced (T.elements store.old) (T.extents store.old) }
+    requires balanced { InBalance T.HasElements store.old }
     ensures ok { OnShown (T.elements store.old) (T.extents store.old) course (λ scene.
         KeysFit (H.hash_of hash.now) scene.elements → AreDrawn scene.course.last parts.now
         → (name : List ℕ) → last_name parts.now ≡ Some name
@@ -90,9 +87,8 @@ pub(crate) fn reach_name<T: ElementStore + Extents, H: NameHash>(
         (walked_along scene.volume scene.view stays parts.now)) result) }
     ensures gives { (name : List ℕ) → last_name parts.now ≡ Some name →
         IfRefused result (IsLost (has_id (Parts parts.now))) }
-    ensures keeps { Same T.elements T.mark T.extents T.room T.free store.old store.new }
-    ensures borrowed { (T.name store.new ≡ T.name store.old)
-        × (T.frame store.new ≡ T.frame store.old) }
+    ensures keeps { IsSame T.HasElements store.old store.new }
+    ensures borrowed { KeepsFrame T.Counted store.old store.new }
     ensures cause { HasStopCause (T.elements store.old) (T.extents store.old)
         (T.faults store.old) (T.faults store.new) result }
 {
@@ -113,7 +109,7 @@ fn reach_last<T: ElementStore + Extents, H: NameHash>(
     directory: Stand,
     course: Course,
 ) -> Result<Stand, Stop>
-    requires balanced { Balanced (T.elements store.old) (T.extents store.old) }
+    requires balanced { InBalance T.HasElements store.old }
     ensures ok { OnShown (T.elements store.old) (T.extents store.old) course (λ scene.
         KeysFit (H.hash_of hash.now) scene.elements → IsDrawn scene.course.last last.now.as_of
         → (passed : Passed) → IsOn scene passed directory → IsReached scene stays
@@ -121,9 +117,8 @@ fn reach_last<T: ElementStore + Extents, H: NameHash>(
     ensures gives { (ids : Bool) →
         (ids ≡ false → (last.now.as_of ≡ None) × (directory.at.when ≡ None)) →
         IfRefused result (IsLost ids) }
-    ensures keeps { Same T.elements T.mark T.extents T.room T.free store.old store.new }
-    ensures borrowed { (T.name store.new ≡ T.name store.old)
-        × (T.frame store.new ≡ T.frame store.old) }
+    ensures keeps { IsSame T.HasElements store.old store.new }
+    ensures borrowed { KeepsFrame T.Counted store.old store.new }
     ensures cause { HasStopCause (T.elements store.old) (T.extents store.old)
         (T.faults store.old) (T.faults store.new) result }
 {

@@ -1,9 +1,8 @@
 // The openings of `prune` and `prune-everything`.
 ghost use Rattle.std.specs.Prelude.{◌≡◌, ◌≤◌, ℕ, List, IfOk, IfSome, OnOk, if◌then◌else◌};
 ghost use Rattle.hm_types.specs.declared.limits.TheConstants.{GREATEST_ID};
-ghost use Rattle.hm_key.specs.Balance.{Balanced};
 ghost use Rattle.hm_key.specs.Charges.{Charges};
-ghost use Rattle.hm_key.specs.Stores.{Keeps, Same};
+ghost use Rattle.hm_key.specs.Members.{InBalance, IsSame, KeepsFrame, KeepsTold};
 ghost use Rattle.hm_model.specs.Due.{first_refusal};
 ghost use Rattle.hm_model.specs.Needs.{names_zones};
 ghost use Rattle.hm_model.specs.Walk.{Follows as follows};
@@ -11,30 +10,16 @@ ghost use Rattle.hm_model.specs.declared.command.Command.TheVariants.{Prune as p
 ghost use Rattle.hm_retain.specs.Retention.{IsRetention};
 ghost use Rattle.hm_records.specs.declared.pfs_record.PfsRecord.{PfsRecord as Told};
 ghost use Rattle.hm_cursor.specs.Names.{IsHash};
-ghost use Rattle.hm_cursor.specs.Told.{HasReadingCause, OnBalanced, fulls};
-ghost use Rattle.hm_cursor.specs.Write.{Writes};
+ghost use Rattle.hm_cursor.specs.Told.{OnBalanced, ReadsWithCause, fulls};
+ghost use Rattle.hm_cursor.specs.Write.{WritesStore};
 ghost use Rattle.hm_calls.specs.Call.{OnCalls};
 ghost use Rattle.hm_calls.specs.Commands.{LowersRoomFor};
 ghost use Rattle.hm_calls.specs.Due.{space_for};
 ghost use Rattle.hm_calls.specs.Known.{AreKnown};
 ghost use Rattle.hm_calls.specs.Possible.{IsGiven, IsNoSpace};
-ghost use Rattle.hm_calls.specs.Prunes.{
-  GivesOpening,
-  HasRecordAfter,
-  HasRefusal,
-  IsPresentOf,
-  IsRecordAfter,
-  IsRetained,
-  IsRetainedIn,
-  OpeningLeadsTo,
-  OpensPrune,
-  SetsTo,
-  command_of,
-  kept_by,
-  mode_by,
-  reply_of,
-  system_after,
-};
+ghost use Rattle.hm_calls.specs.Prunes.{GivesOpening, HasRecordAfter, HasRefusal, IsPresentOf, IsRecordAfter};
+ghost use Rattle.hm_calls.specs.Prunes.{IsRetained, IsRetainedIn, OpeningLeadsTo, OpensPrune, SetsTo, command_of};
+ghost use Rattle.hm_calls.specs.Prunes.{kept_by, mode_by, reply_of, system_after};
 ghost use Rattle.hm_calls.specs.Space.{TakesAtMost};
 ghost use Rattle.hm_calls.specs.declared.pruning.Pruning.TheVariants.{Present as present, Snapshots as snapshots};
 ghost use Rattle.hm_calls.specs.Stop.{Answers, HasStopCause, IfRefused};
@@ -80,7 +65,7 @@ pub fn open_prune<T: ElementStore + Extents, H: NameHash>(
     id: Id,
 ) -> Result<Opened, Fault>
     requires id { (1 ≤ id.0) × (id.0 ≤ GREATEST_ID) }
-    requires balanced { Balanced (T.elements store.old) (T.extents store.old) }
+    requires balanced { InBalance T.HasElements store.old }
     ensures opens { IfOk result (OpensPrune T.elements T.mark T.extents T.room T.free
         (H.hash_of hash.now) id.0 pruning path.now store.old store.new) }
     ensures possible { IfOk result (λ opened.
@@ -88,13 +73,11 @@ pub fn open_prune<T: ElementStore + Extents, H: NameHash>(
     ensures refused { IfOk result HasRefusal }
     ensures known { OnOk result ((i : ℕ) → AreKnown (T.elements store.old) (T.extents store.old) i →
         AreKnown (T.elements store.new) (T.extents store.new) i) }
-    ensures keeps { Keeps T.elements T.extents store.old store.new result }
+    ensures keeps { KeepsTold T.HasElements store.old store.new result }
     ensures room { LowersRoomFor (command_of pruning path.now) T.room store.old store.new }
     ensures charges { OnOk result (Charges T.room T.free reserves store.old store.new) }
-    ensures borrowed { (T.name store.new ≡ T.name store.old)
-        × (T.frame store.new ≡ T.frame store.old) }
-    ensures cause { HasReadingCause (T.elements store.old) (T.extents store.old)
-        (T.faults store.old) (T.faults store.new) result }
+    ensures borrowed { KeepsFrame T.Counted store.old store.new }
+    ensures cause { ReadsWithCause T.HasElements store.old store.new result }
 {
     match begin_prune(alloc, store, hash, pruning, path, id) {
         Ok(led) => Ok(Opened::Led(led)),
@@ -112,15 +95,16 @@ fn begin_prune<T: ElementStore + Extents, H: NameHash>(
     id: Id,
 ) -> Result<Led, Stop>
     requires id { (1 ≤ id.0) × (id.0 ≤ GREATEST_ID) }
-    requires balanced { Balanced (T.elements store.old) (T.extents store.old) }
+    requires balanced { InBalance T.HasElements store.old }
     ensures leads { OpeningLeadsTo T.elements T.mark T.extents T.room T.free
         (H.hash_of hash.now) id.0 pruning word.now store.old store.new result }
     ensures gives { GivesOpening id.0 (command_of pruning word.now) result }
     ensures known { OnOk result ((i : ℕ) → AreKnown (T.elements store.old) (T.extents store.old) i →
         AreKnown (T.elements store.new) (T.extents store.new) i) }
-    ensures keeps { Keeps T.elements T.extents store.old store.new result }
+    ensures keeps { KeepsTold T.HasElements store.old store.new result }
     ensures room { TakesAtMost T.room T.free reserves store.old store.new result
-        × (T.name store.new ≡ T.name store.old) × (T.frame store.new ≡ T.frame store.old) }
+        × (T.name store.new ≡ T.name store.old)
+        × (T.frame store.new ≡ T.frame store.old) }
     ensures cause { HasStopCause (T.elements store.old) (T.extents store.old)
         (T.faults store.old) (T.faults store.new) result }
 {
@@ -138,7 +122,7 @@ fn record_after<T: ElementStore + Extents>(
     id: Id,
 ) -> Result<Option<PfsRecord>, Stop>
     requires id { (1 ≤ id.0) × (id.0 ≤ GREATEST_ID) }
-    requires balanced { Balanced (T.elements store.old) (T.extents store.old) }
+    requires balanced { InBalance T.HasElements store.old }
     ensures told { (hash : List ℕ → ℕ) (word : List ℕ) (room : ℕ → ℕ) (free : ℕ) → IsHash hash →
         OnCalls hash id.0 (T.elements store.old) (T.extents store.old) (λ es call.
         call.command ≡ command_of pruning word →
@@ -150,9 +134,8 @@ fn record_after<T: ElementStore + Extents>(
     ensures few { IfOk result (λ to. IfSome to (λ (r : Told). IsRetention r.retention)) }
     ensures gives { (word : List ℕ) →
         IfRefused result (MayRefuse (command_of pruning word)) }
-    ensures keeps { Same T.elements T.mark T.extents T.room T.free store.old store.new }
-    ensures borrowed { (T.name store.new ≡ T.name store.old)
-        × (T.frame store.new ≡ T.frame store.old) }
+    ensures keeps { IsSame T.HasElements store.old store.new }
+    ensures borrowed { KeepsFrame T.Counted store.old store.new }
     ensures cause { HasStopCause (T.elements store.old) (T.extents store.old)
         (T.faults store.old) (T.faults store.new) result }
 {
@@ -173,7 +156,7 @@ fn name_kept<T: ElementStore + Extents>(
     id: Id,
 ) -> Result<PfsRecord, Stop>
     requires id { 1 ≤ id.0 }
-    requires balanced { Balanced (T.elements store.old) (T.extents store.old) }
+    requires balanced { InBalance T.HasElements store.old }
     ensures told { (hash : List ℕ → ℕ) (word : List ℕ) (room : ℕ → ℕ) (free : ℕ) → IsHash hash →
         OnCalls hash id.0 (T.elements store.old) (T.extents store.old) (λ es call.
         call.command ≡ prune word → ComesTo follows room free directory.now es call →
@@ -183,9 +166,8 @@ fn name_kept<T: ElementStore + Extents>(
         (λ lists. IsRetained directory.now.at.pfs.0 to (fulls lists))) }
     ensures few { IfOk result (λ r. IsRetention r.retention) }
     ensures gives { (word : List ℕ) → IfRefused result (MayRefuse (prune word)) }
-    ensures keeps { Same T.elements T.mark T.extents T.room T.free store.old store.new }
-    ensures borrowed { (T.name store.new ≡ T.name store.old)
-        × (T.frame store.new ≡ T.frame store.old) }
+    ensures keeps { IsSame T.HasElements store.old store.new }
+    ensures borrowed { KeepsFrame T.Counted store.old store.new }
     ensures cause { HasStopCause (T.elements store.old) (T.extents store.old)
         (T.faults store.old) (T.faults store.new) result }
 {
@@ -221,18 +203,16 @@ fn keep_present<T: ElementStore + Extents>(
     id: Id,
 ) -> Result<Option<PfsRecord>, Fault>
     requires id { id.0 ≤ GREATEST_ID }
-    requires balanced { Balanced (T.elements store.old) (T.extents store.old) }
+    requires balanced { InBalance T.HasElements store.old }
     ensures told { (hash : List ℕ → ℕ) →
         OnCalls hash id.0 (T.elements store.old) (T.extents store.old) (λ es call.
         IfOk result (λ to. HasRecordAfter (system_after present call) call.volume pfs.0 to es)) }
     ensures retained { IfOk result (λ to. OnBalanced (T.elements store.old) (T.extents store.old)
         (λ lists. IsRetainedIn pfs.0 to (fulls lists))) }
     ensures few { IfOk result (λ to. IfSome to (λ (r : Told). IsRetention r.retention)) }
-    ensures keeps { Same T.elements T.mark T.extents T.room T.free store.old store.new }
-    ensures borrowed { (T.name store.new ≡ T.name store.old)
-        × (T.frame store.new ≡ T.frame store.old) }
-    ensures cause { HasReadingCause (T.elements store.old) (T.extents store.old)
-        (T.faults store.old) (T.faults store.new) result }
+    ensures keeps { IsSame T.HasElements store.old store.new }
+    ensures borrowed { KeepsFrame T.Counted store.old store.new }
+    ensures cause { ReadsWithCause T.HasElements store.old store.new result }
 {
     let Some(record) = find_record(alloc, store, pfs)? else {
         return Ok(None);
@@ -264,19 +244,20 @@ fn cut<T: ElementStore + Extents>(
     pfs: Pfs,
     to: Option<PfsRecord>,
 ) -> Result<Led, Stop>
-    requires balanced { Balanced (T.elements store.old) (T.extents store.old) }
+    requires balanced { InBalance T.HasElements store.old }
     requires few { IfSome to (λ (r : Told). IsRetention r.retention) }
     ensures check { Answers (space_for names_zones 0 (T.room store.old) (T.free store.old))
         result }
     ensures gives { IfRefused result IsNoSpace }
     ensures led { IfOk result (λ led. (led.pfs ≡ pfs) × (led.kept ≡ kept_by to)) }
-    ensures sets { OnOk result (Writes T.elements T.extents (SetsTo pfs.0 to)
+    ensures sets { OnOk result (WritesStore T.HasElements (SetsTo pfs.0 to)
         store.old store.new) }
     ensures refused { IfRefused result (λ _.
-        Same T.elements T.mark T.extents T.room T.free store.old store.new) }
-    ensures keeps { Keeps T.elements T.extents store.old store.new result }
+        IsSame T.HasElements store.old store.new) }
+    ensures keeps { KeepsTold T.HasElements store.old store.new result }
     ensures room { TakesAtMost T.room T.free reserves store.old store.new result
-        × (T.name store.new ≡ T.name store.old) × (T.frame store.new ≡ T.frame store.old) }
+        × (T.name store.new ≡ T.name store.old)
+        × (T.frame store.new ≡ T.frame store.old) }
     ensures cause { HasStopCause (T.elements store.old) (T.extents store.old)
         (T.faults store.old) (T.faults store.new) result }
 {

@@ -1,12 +1,9 @@
 // New objects and new links, with their names.
 ghost use Rattle.std.specs.Prelude.{◌≡◌, ◌≤◌, ℕ, List, OnOk};
 ghost use Rattle.hm_types.specs.Name.{IsName};
-ghost use Rattle.hm_types.specs.Faults.{HasStoreCause};
-ghost use Rattle.hm_types.specs.Space.{Spends};
-ghost use Rattle.hm_key.specs.Balance.{Balanced, content_of};
-ghost use Rattle.hm_key.specs.Stores.{Keeps};
-ghost use Rattle.hm_cursor.specs.Told.{HasReadingCause};
-ghost use Rattle.hm_cursor.specs.Write.{Writes};
+ghost use Rattle.hm_key.specs.Members.{HasContentCause, InBalance, KeepsFrame, KeepsTold, SpendsAtMost};
+ghost use Rattle.hm_cursor.specs.Told.{ReadsWithCause};
+ghost use Rattle.hm_cursor.specs.Write.{WritesStore};
 ghost use Rattle.hm_objects.specs.Objects.{AddsObject, HasRooms, IsOlderIn, spent};
 ghost use Rattle.hm_dirs.specs.Names.{AreOlderIn};
 ghost use Rattle.hm_calls.specs.Known.{AreBelowIn};
@@ -33,19 +30,17 @@ pub(crate) fn put_object<T: ElementStore + Extents>(
 ) -> Result<(), Fault>
     requires id { 1 ≤ id.0 }
     requires values { IsName name.now × IsNewObject new }
-    requires balanced { Balanced (T.elements store.old) (T.extents store.old) }
+    requires balanced { InBalance T.HasElements store.old }
     requires below { AreBelowIn (T.elements store.old) (T.extents store.old)
         directory.now.at.pfs.0 id.0 }
     requires room { HasReserves (T.room store.old) }
-    ensures ok { (hash : List ℕ → ℕ) → OnOk result (Writes T.elements T.extents
+    ensures ok { (hash : List ℕ → ℕ) → OnOk result (WritesStore T.HasElements
         (PutsObject hash (place_in directory.now name.now) spot id.0 (object_by new.entry id.0))
         store.old store.new) }
-    ensures keeps { Keeps T.elements T.extents store.old store.new result }
-    ensures space { Spends T.room T.free reserves store.old store.new }
-    ensures borrowed { (T.name store.new ≡ T.name store.old)
-        × (T.frame store.new ≡ T.frame store.old) }
-    ensures cause { HasReadingCause (T.elements store.old) (T.extents store.old)
-        (T.faults store.old) (T.faults store.new) result }
+    ensures keeps { KeepsTold T.HasElements store.old store.new result }
+    ensures space { SpendsAtMost T.HasElements reserves store.old store.new }
+    ensures borrowed { KeepsFrame T.Counted store.old store.new }
+    ensures cause { ReadsWithCause T.HasElements store.old store.new result }
 {
     add_object(alloc, store, directory.at.pfs, new, id)?;
     put_name(
@@ -73,19 +68,17 @@ pub(crate) fn put_link<T: ElementStore + Extents>(
 ) -> Result<(), Fault>
     requires id { 1 ≤ id.0 }
     requires name { IsName name.now }
-    requires balanced { Balanced (T.elements store.old) (T.extents store.old) }
+    requires balanced { InBalance T.HasElements store.old }
     requires below { AreBelowIn (T.elements store.old) (T.extents store.old)
         directory.now.at.pfs.0 id.0 }
     requires room { HasReserves (T.room store.old) }
-    ensures ok { (hash : List ℕ → ℕ) → OnOk result (Writes T.elements T.extents
+    ensures ok { (hash : List ℕ → ℕ) → OnOk result (WritesStore T.HasElements
         (PutsLink hash (place_in directory.now name.now) spot id.0 obj links)
         store.old store.new) }
-    ensures keeps { Keeps T.elements T.extents store.old store.new result }
-    ensures space { Spends T.room T.free reserves store.old store.new }
-    ensures borrowed { (T.name store.new ≡ T.name store.old)
-        × (T.frame store.new ≡ T.frame store.old) }
-    ensures cause { HasReadingCause (T.elements store.old) (T.extents store.old)
-        (T.faults store.old) (T.faults store.new) result }
+    ensures keeps { KeepsTold T.HasElements store.old store.new result }
+    ensures space { SpendsAtMost T.HasElements reserves store.old store.new }
+    ensures borrowed { KeepsFrame T.Counted store.old store.new }
+    ensures cause { ReadsWithCause T.HasElements store.old store.new result }
 {
     set_links(alloc, store, directory.at.pfs, obj, links, id)?;
     put_name(alloc, store, directory, spot, name, obj, FILE, id)
@@ -105,18 +98,16 @@ pub(crate) fn put_name<T: ElementStore + Extents>(
 ) -> Result<(), Fault>
     requires id { 1 ≤ id.0 }
     requires values { IsName name.now × (1 ≤ kind) × (kind ≤ 4) }
-    requires balanced { Balanced (T.elements store.old) (T.extents store.old) }
+    requires balanced { InBalance T.HasElements store.old }
     requires older { AreOlderIn (T.elements store.old) (T.extents store.old)
         directory.now.at.pfs.0 directory.now.at.object id.0 }
     requires room { HasRooms (T.room store.old) 1 272 }
-    ensures ok { OnOk result (Writes T.elements T.extents
+    ensures ok { OnOk result (WritesStore T.HasElements
         (PutsName (place_in directory.now name.now) spot id.0 obj kind) store.old store.new) }
-    ensures keeps { Keeps T.elements T.extents store.old store.new result }
-    ensures space { Spends T.room T.free (spent 1 272) store.old store.new }
-    ensures borrowed { (T.name store.new ≡ T.name store.old)
-        × (T.frame store.new ≡ T.frame store.old) }
-    ensures cause { HasStoreCause (content_of (T.elements store.old) (T.extents store.old))
-        (T.faults store.old) (T.faults store.new) result }
+    ensures keeps { KeepsTold T.HasElements store.old store.new result }
+    ensures space { SpendsAtMost T.HasElements (spent 1 272) store.old store.new }
+    ensures borrowed { KeepsFrame T.Counted store.old store.new }
+    ensures cause { HasContentCause T.HasElements store.old store.new result }
 {
     let entry = DirEntry {
         obj,
@@ -145,17 +136,15 @@ fn add_object<T: ElementStore + Extents>(
 ) -> Result<(), Fault>
     requires id { 1 ≤ id.0 }
     requires object { IsNewObject new }
-    requires balanced { Balanced (T.elements store.old) (T.extents store.old) }
+    requires balanced { InBalance T.HasElements store.old }
     requires older { IsOlderIn (T.elements store.old) (T.extents store.old) pfs.0 id.0 id.0 }
     requires room { HasRooms (T.room store.old) 2 1056 }
-    ensures ok { OnOk result (Writes T.elements T.extents
+    ensures ok { OnOk result (WritesStore T.HasElements
         (AddsObject pfs.0 id.0 (object_by new.entry id.0)) store.old store.new) }
-    ensures keeps { Keeps T.elements T.extents store.old store.new result }
-    ensures space { Spends T.room T.free (spent 2 1056) store.old store.new }
-    ensures borrowed { (T.name store.new ≡ T.name store.old)
-        × (T.frame store.new ≡ T.frame store.old) }
-    ensures cause { HasStoreCause (content_of (T.elements store.old) (T.extents store.old))
-        (T.faults store.old) (T.faults store.new) result }
+    ensures keeps { KeepsTold T.HasElements store.old store.new result }
+    ensures space { SpendsAtMost T.HasElements (spent 2 1056) store.old store.new }
+    ensures borrowed { KeepsFrame T.Counted store.old store.new }
+    ensures cause { HasContentCause T.HasElements store.old store.new result }
 {
     let number = Obj(id.0);
     match new {

@@ -2,8 +2,7 @@
 ghost use Rattle.std.specs.Prelude.{◌≡◌, ◌<◌, ◌≤◌, OnOk, IfOk, ◌+◌};
 ghost use Rattle.hm_types.specs.Space.{nothing};
 ghost use Rattle.hm_types.specs.declared.limits.TheConstants.{GREATEST_ID};
-ghost use Rattle.hm_key.specs.Balance.{Balanced};
-ghost use Rattle.hm_key.specs.Stores.{Keeps, Same, SameContent};
+ghost use Rattle.hm_key.specs.Members.{HasSameContent, InBalance, IsSame, KeepsTold};
 ghost use Rattle.hm_model.specs.Call.{Call};
 ghost use Rattle.hm_model.specs.declared.command.Command.TheVariants.{Rm as rm, Rmdir as rmdir};
 ghost use Rattle.hm_calls.specs.Due.{space_for, zones_beside};
@@ -38,7 +37,7 @@ pub(crate) fn remove<T: ElementStore + Extents, H: NameHash>(
     id: Id,
 ) -> Result<Reply, Stop>
     requires id { (1 ≤ id.0) × (id.0 ≤ GREATEST_ID) }
-    requires balanced { Balanced (T.elements store.old) (T.extents store.old) }
+    requires balanced { InBalance T.HasElements store.old }
     requires known { AreKnown (T.elements store.old) (T.extents store.old) id.0 }
     ensures answers { Acts T.elements T.mark T.extents T.room T.free (H.hash_of hash.now) id.0
         (λ (call : Call). call.command ≡ rm word.now) store.old store.new result }
@@ -46,9 +45,10 @@ pub(crate) fn remove<T: ElementStore + Extents, H: NameHash>(
     ensures done { IfOk result (λ reply. reply ≡ done) }
     ensures known { OnOk result (AreKnown (T.elements store.new) (T.extents store.new)
         (id.0 + 1)) }
-    ensures keeps { Keeps T.elements T.extents store.old store.new result }
+    ensures keeps { KeepsTold T.HasElements store.old store.new result }
     ensures room { TakesAtMost T.room T.free reserves store.old store.new result
-        × (T.name store.new ≡ T.name store.old) × (T.frame store.new ≡ T.frame store.old) }
+        × (T.name store.new ≡ T.name store.old)
+        × (T.frame store.new ≡ T.frame store.old) }
     ensures cause { HasStopCause (T.elements store.old) (T.extents store.old)
         (T.faults store.old) (T.faults store.new) result }
 {
@@ -77,11 +77,12 @@ fn admit_rest<T: ElementStore + Extents>(store: &mut T, inode: &Inode) -> Result
         (T.free store.old)) result }
     ensures gives { IfRefused result IsNoSpace }
     ensures reserves { OnOk result (1 < inode.now.links → HasReserves (T.room store.new)) }
-    ensures content { OnOk result (SameContent T.elements T.mark T.extents store.old store.new) }
+    ensures content { OnOk result (HasSameContent T.HasElements store.old store.new) }
     ensures refused { IfRefused result (λ _.
-        Same T.elements T.mark T.extents T.room T.free store.old store.new) }
+        IsSame T.HasElements store.old store.new) }
     ensures room { TakesAtMost T.room T.free nothing store.old store.new result
-        × (T.name store.new ≡ T.name store.old) × (T.frame store.new ≡ T.frame store.old) }
+        × (T.name store.new ≡ T.name store.old)
+        × (T.frame store.new ≡ T.frame store.old) }
     ensures cause { HasStopCause (T.elements store.old) (T.extents store.old)
         (T.faults store.old) (T.faults store.new) result }
 {
@@ -108,7 +109,7 @@ pub(crate) fn remove_directory<T: ElementStore + Extents, H: NameHash>(
     id: Id,
 ) -> Result<Reply, Stop>
     requires id { (1 ≤ id.0) × (id.0 ≤ GREATEST_ID) }
-    requires balanced { Balanced (T.elements store.old) (T.extents store.old) }
+    requires balanced { InBalance T.HasElements store.old }
     requires known { AreKnown (T.elements store.old) (T.extents store.old) id.0 }
     ensures answers { Acts T.elements T.mark T.extents T.room T.free (H.hash_of hash.now) id.0
         (λ (call : Call). call.command ≡ rmdir word.now) store.old store.new result }
@@ -116,9 +117,10 @@ pub(crate) fn remove_directory<T: ElementStore + Extents, H: NameHash>(
     ensures done { IfOk result (λ reply. reply ≡ done) }
     ensures known { OnOk result (AreKnown (T.elements store.new) (T.extents store.new)
         (id.0 + 1)) }
-    ensures keeps { Keeps T.elements T.extents store.old store.new result }
+    ensures keeps { KeepsTold T.HasElements store.old store.new result }
     ensures room { TakesAtMost T.room T.free reserves store.old store.new result
-        × (T.name store.new ≡ T.name store.old) × (T.frame store.new ≡ T.frame store.old) }
+        × (T.name store.new ≡ T.name store.old)
+        × (T.frame store.new ≡ T.frame store.old) }
     ensures cause { HasStopCause (T.elements store.old) (T.extents store.old)
         (T.faults store.old) (T.faults store.new) result }
 {

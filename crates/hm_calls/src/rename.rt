@@ -1,14 +1,13 @@
 // Names that give way to others.
 ghost use Rattle.std.specs.Prelude.{◌≡◌, ◌≤◌, OnOk};
 ghost use Rattle.hm_types.specs.Name.{IsName};
-ghost use Rattle.hm_types.specs.Space.{Spends};
-ghost use Rattle.hm_key.specs.Balance.{Balanced};
-ghost use Rattle.hm_key.specs.Stores.{Keeps};
-ghost use Rattle.hm_cursor.specs.Told.{HasReadingCause};
-ghost use Rattle.hm_cursor.specs.Write.{Writes};
+ghost use Rattle.hm_key.specs.Members.{InBalance, KeepsFrame, KeepsTold, SpendsAtMost};
+ghost use Rattle.hm_cursor.specs.Told.{ReadsWithCause};
+ghost use Rattle.hm_cursor.specs.Write.{Writes, WritesStore};
 ghost use Rattle.hm_calls.specs.Known.{AreBelowIn};
 ghost use Rattle.hm_calls.specs.Moves.{HasRoomToMove, WritesMove};
-ghost use Rattle.hm_calls.specs.Writes.{AreOlderAround, HasReserves, IsMoving, Renames, ReplacesName, place_of_name, reserves};
+ghost use Rattle.hm_calls.specs.Writes.{AreOlderAround, HasReserves, IsMoving, Renames, ReplacesName};
+ghost use Rattle.hm_calls.specs.Writes.{place_of_name, reserves};
 
 use crate::put::put_name;
 use crate::take::drop_link;
@@ -53,19 +52,17 @@ pub(crate) fn write_move<T: ElementStore + Extents, H: NameHash>(
 ) -> Result<(), Fault>
     requires id { 1 ≤ id.0 }
     requires values { IsMoving old new moved }
-    requires balanced { Balanced (T.elements store.old) (T.extents store.old) }
+    requires balanced { InBalance T.HasElements store.old }
     requires below { AreBelowIn (T.elements store.old) (T.extents store.old)
         new.directory.now.at.pfs.0 id.0 }
     requires room { HasRoomToMove change (T.room store.old) }
-    ensures ok { OnOk result (Writes T.elements T.extents
+    ensures ok { OnOk result (WritesStore T.HasElements
         (WritesMove (H.hash_of hash.now) (place_of_name old.entry) (place_of_name new.entry) id.0
         moved change) store.old store.new) }
-    ensures keeps { Keeps T.elements T.extents store.old store.new result }
-    ensures space { Spends T.room T.free reserves store.old store.new }
-    ensures borrowed { (T.name store.new ≡ T.name store.old)
-        × (T.frame store.new ≡ T.frame store.old) }
-    ensures cause { HasReadingCause (T.elements store.old) (T.extents store.old)
-        (T.faults store.old) (T.faults store.new) result }
+    ensures keeps { KeepsTold T.HasElements store.old store.new result }
+    ensures space { SpendsAtMost T.HasElements reserves store.old store.new }
+    ensures borrowed { KeepsFrame T.Counted store.old store.new }
+    ensures cause { ReadsWithCause T.HasElements store.old store.new result }
 {
     match change {
         Move::Itself => Ok(()),
@@ -87,18 +84,16 @@ fn rename<T: ElementStore + Extents, H: NameHash>(
 ) -> Result<(), Fault>
     requires id { 1 ≤ id.0 }
     requires values { IsMoving old new moved }
-    requires balanced { Balanced (T.elements store.old) (T.extents store.old) }
+    requires balanced { InBalance T.HasElements store.old }
     requires older { AreOlderAround (T.elements store.old) (T.extents store.old) old new id.0 }
     requires room { HasReserves (T.room store.old) }
-    ensures ok { OnOk result (Writes T.elements T.extents
+    ensures ok { OnOk result (WritesStore T.HasElements
         (Renames (H.hash_of hash.now) (place_of_name old.entry) (place_of_name new.entry) spot id.0
         moved.obj moved.kind) store.old store.new) }
-    ensures keeps { Keeps T.elements T.extents store.old store.new result }
-    ensures space { Spends T.room T.free reserves store.old store.new }
-    ensures borrowed { (T.name store.new ≡ T.name store.old)
-        × (T.frame store.new ≡ T.frame store.old) }
-    ensures cause { HasReadingCause (T.elements store.old) (T.extents store.old)
-        (T.faults store.old) (T.faults store.new) result }
+    ensures keeps { KeepsTold T.HasElements store.old store.new result }
+    ensures space { SpendsAtMost T.HasElements reserves store.old store.new }
+    ensures borrowed { KeepsFrame T.Counted store.old store.new }
+    ensures cause { ReadsWithCause T.HasElements store.old store.new result }
 {
     let pfs = new.directory.at.pfs;
     close_name(
@@ -143,19 +138,17 @@ fn replace<T: ElementStore + Extents, H: NameHash>(
 ) -> Result<(), Fault>
     requires id { 1 ≤ id.0 }
     requires values { IsMoving old new moved }
-    requires balanced { Balanced (T.elements store.old) (T.extents store.old) }
+    requires balanced { InBalance T.HasElements store.old }
     requires below { AreBelowIn (T.elements store.old) (T.extents store.old)
         new.directory.now.at.pfs.0 id.0 }
     requires room { HasReserves (T.room store.old) }
-    ensures ok { OnOk result (Writes T.elements T.extents
+    ensures ok { OnOk result (WritesStore T.HasElements
         (ReplacesName (H.hash_of hash.now) (place_of_name old.entry) (place_of_name new.entry) there.key id.0
         moved.obj moved.kind there.obj there.links) store.old store.new) }
-    ensures keeps { Keeps T.elements T.extents store.old store.new result }
-    ensures space { Spends T.room T.free reserves store.old store.new }
-    ensures borrowed { (T.name store.new ≡ T.name store.old)
-        × (T.frame store.new ≡ T.frame store.old) }
-    ensures cause { HasReadingCause (T.elements store.old) (T.extents store.old)
-        (T.faults store.old) (T.faults store.new) result }
+    ensures keeps { KeepsTold T.HasElements store.old store.new result }
+    ensures space { SpendsAtMost T.HasElements reserves store.old store.new }
+    ensures borrowed { KeepsFrame T.Counted store.old store.new }
+    ensures cause { ReadsWithCause T.HasElements store.old store.new result }
 {
     let pfs = new.directory.at.pfs;
     close_name(

@@ -2,7 +2,7 @@
 ghost use Rattle.std.specs.Prelude.{◌≡◌, ◌-◌, IfErr, OnOk};
 ghost use Rattle.std.specs.Bool.{nat_lt};
 ghost use Rattle.hm_types.specs.Space.{nothing};
-ghost use Rattle.hm_key.specs.Stores.{Same, SameContent};
+ghost use Rattle.hm_key.specs.Members.{HasSameContent, IsSame};
 ghost use Rattle.hm_model.specs.Due.{refuse_if};
 ghost use Rattle.hm_model.specs.Needs.{bytes_zones, names_zones};
 ghost use Rattle.hm_model.specs.declared.reply.Reply.TheVariants.{NoSpace as no_space};
@@ -27,11 +27,12 @@ pub(crate) fn admit_names<T: ElementStore + Extents>(store: &mut T, held: u32) -
         (no_space (T.free store.old) (lacking names_zones (T.room store.old)))) result }
     ensures gives { IfRefused result IsNoSpace }
     ensures reserves { OnOk result (HasReserves (T.room store.new)) }
-    ensures content { OnOk result (SameContent T.elements T.mark T.extents store.old store.new) }
+    ensures content { OnOk result (HasSameContent T.HasElements store.old store.new) }
     ensures refused { IfRefused result (λ _.
-        Same T.elements T.mark T.extents T.room T.free store.old store.new) }
+        IsSame T.HasElements store.old store.new) }
     ensures room { TakesAtMost T.room T.free nothing store.old store.new result
-        × (T.name store.new ≡ T.name store.old) × (T.frame store.new ≡ T.frame store.old) }
+        × (T.name store.new ≡ T.name store.old)
+        × (T.frame store.new ≡ T.frame store.old) }
     ensures cause { HasStopCause (T.elements store.old) (T.extents store.old)
         (T.faults store.old) (T.faults store.new) result }
 {
@@ -52,11 +53,12 @@ pub(crate) fn admit_bytes<T: ElementStore + Extents>(store: &mut T, held: u32) -
         (no_space (T.free store.old) (lacking bytes_zones (T.room store.old)))) result }
     ensures gives { IfRefused result IsNoSpace }
     ensures reserves { OnOk result (HasAllReserves (T.room store.new)) }
-    ensures content { OnOk result (SameContent T.elements T.mark T.extents store.old store.new) }
+    ensures content { OnOk result (HasSameContent T.HasElements store.old store.new) }
     ensures refused { IfRefused result (λ _.
-        Same T.elements T.mark T.extents T.room T.free store.old store.new) }
+        IsSame T.HasElements store.old store.new) }
     ensures room { TakesAtMost T.room T.free nothing store.old store.new result
-        × (T.name store.new ≡ T.name store.old) × (T.frame store.new ≡ T.frame store.old) }
+        × (T.name store.new ≡ T.name store.old)
+        × (T.frame store.new ≡ T.frame store.old) }
     ensures cause { HasStopCause (T.elements store.old) (T.extents store.old)
         (T.faults store.old) (T.faults store.new) result }
 {

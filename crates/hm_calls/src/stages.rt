@@ -1,8 +1,6 @@
 // What calls of two paths ask of their words, and of the pseudo file systems that these lead to.
 ghost use Rattle.std.specs.Prelude.{◌≡◌, ◌||◌, ℕ, List, IfErr, IfOk, OnOk, false};
 ghost use Rattle.std.specs.Option.{option_map_or};
-ghost use Rattle.hm_key.specs.Balance.{Balanced};
-ghost use Rattle.hm_key.specs.Stores.{Same};
 ghost use Rattle.hm_model.specs.Due.{refuse_if};
 ghost use Rattle.hm_model.specs.declared.reply.Reply.TheVariants.{ReadOnly as read_only};
 ghost use Rattle.hm_dirs.specs.Walk.{Scene};
@@ -11,6 +9,7 @@ ghost use Rattle.hm_calls.specs.Known.{AreBelowIn, AreKnown};
 ghost use Rattle.hm_calls.specs.Scenes.{InScenes, is_slave};
 ghost use Rattle.hm_calls.specs.Stages.{AnswersAll, IsNewName, word_checks};
 ghost use Rattle.hm_calls.specs.Stop.{Answers, HasStopCause, IfRefused, OfFault};
+ghost use Rattle.hm_key.specs.Members.{InBalance, IsSame, KeepsFrame};
 
 use crate::checks::check_master;
 use crate::stop::Stop;
@@ -50,7 +49,7 @@ pub(crate) fn check_masters<T: ElementStore + Extents>(
     one: Pfs,
     two: Pfs,
 ) -> Result<(), Stop>
-    requires balanced { Balanced (T.elements store.old) (T.extents store.old) }
+    requires balanced { InBalance T.HasElements store.old }
     ensures ok { (hash : List ℕ → ℕ) (course : Way) →
         InScenes hash course (T.elements store.old) (T.extents store.old) (λ scene.
         Answers (refuse_if (is_slave scene.volume one.0 || (is_slave scene.volume two.0 || false))
@@ -58,9 +57,8 @@ pub(crate) fn check_masters<T: ElementStore + Extents>(
     ensures below { OnOk result ((id : ℕ) → AreKnown (T.elements store.old) (T.extents store.old) id
         → AreBelowIn (T.elements store.old) (T.extents store.old) two.0 id) }
     ensures gives { IfRefused result (λ reply. reply ≡ read_only) }
-    ensures keeps { Same T.elements T.mark T.extents T.room T.free store.old store.new }
-    ensures borrowed { (T.name store.new ≡ T.name store.old)
-        × (T.frame store.new ≡ T.frame store.old) }
+    ensures keeps { IsSame T.HasElements store.old store.new }
+    ensures borrowed { KeepsFrame T.Counted store.old store.new }
     ensures cause { HasStopCause (T.elements store.old) (T.extents store.old)
         (T.faults store.old) (T.faults store.new) result }
 {

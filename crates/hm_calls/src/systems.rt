@@ -1,12 +1,11 @@
 // The calls that speak of the pseudo file system in which their path ends, and `pfs-status`.
 ghost use Rattle.std.specs.Prelude.{◌≡◌, ◌≤◌, IfOk, OnOk};
 ghost use Rattle.hm_types.specs.declared.limits.TheConstants.{GREATEST_ID};
-ghost use Rattle.hm_key.specs.Balance.{Balanced};
-ghost use Rattle.hm_key.specs.Stores.{Same};
+ghost use Rattle.hm_key.specs.Members.{InBalance, IsSame, KeepsFrame};
 ghost use Rattle.hm_model.specs.Call.{Call};
 ghost use Rattle.hm_model.specs.declared.command.Command.{Command};
 ghost use Rattle.hm_model.specs.declared.command.Command.TheVariants.{PfsStatus as status};
-ghost use Rattle.hm_cursor.specs.Told.{HasReadingCause};
+ghost use Rattle.hm_cursor.specs.Told.{ReadsWithCause};
 ghost use Rattle.hm_dirs.specs.Walk.{mode_of};
 ghost use Rattle.hm_calls.specs.Call.{OnCalls};
 ghost use Rattle.hm_calls.specs.Due.{due_over};
@@ -36,7 +35,7 @@ pub(crate) fn reach_system<T: ElementStore + Extents, H: NameHash>(
     id: Id,
 ) -> Result<Stand, Stop>
     requires id { (1 ≤ id.0) × (id.0 ≤ GREATEST_ID) }
-    requires balanced { Balanced (T.elements store.old) (T.extents store.old) }
+    requires balanced { InBalance T.HasElements store.old }
     ensures comes { (command : Command) → IsOnSystem word.now (mode_of follow) command →
         IfOk result (λ stand. OnCalls (H.hash_of hash.now) id.0
         (T.elements store.old) (T.extents store.old) (λ es call. call.command ≡ command →
@@ -49,9 +48,8 @@ pub(crate) fn reach_system<T: ElementStore + Extents, H: NameHash>(
     ensures refuses { IfRefused result TellsRefusal }
     ensures early { (command : Command) → IsOnSystem word.now (mode_of follow) command →
         OnOk result (PassesEarly id.0 command) }
-    ensures keeps { Same T.elements T.mark T.extents T.room T.free store.old store.new }
-    ensures borrowed { (T.name store.new ≡ T.name store.old)
-        × (T.frame store.new ≡ T.frame store.old) }
+    ensures keeps { IsSame T.HasElements store.old store.new }
+    ensures borrowed { KeepsFrame T.Counted store.old store.new }
     ensures cause { HasStopCause (T.elements store.old) (T.extents store.old)
         (T.faults store.old) (T.faults store.new) result }
 {
@@ -78,16 +76,14 @@ pub fn pfs_status<T: ElementStore + Extents, H: NameHash>(
     id: Id,
 ) -> Result<Reply, Fault>
     requires id { (1 ≤ id.0) × (id.0 ≤ GREATEST_ID) }
-    requires balanced { Balanced (T.elements store.old) (T.extents store.old) }
+    requires balanced { InBalance T.HasElements store.old }
     ensures due { IfOk result (λ reply. OnCalls (H.hash_of hash.now) id.0
         (T.elements store.old) (T.extents store.old) (λ _ call. call.command ≡ status path.now →
         reply ≡ due_over call (T.room store.old) (T.free store.old))) }
     ensures possible { IfOk result (IsGiven id.0 (status path.now)) }
-    ensures keeps { Same T.elements T.mark T.extents T.room T.free store.old store.new }
-    ensures borrowed { (T.name store.new ≡ T.name store.old)
-        × (T.frame store.new ≡ T.frame store.old) }
-    ensures cause { HasReadingCause (T.elements store.old) (T.extents store.old)
-        (T.faults store.old) (T.faults store.new) result }
+    ensures keeps { IsSame T.HasElements store.old store.new }
+    ensures borrowed { KeepsFrame T.Counted store.old store.new }
+    ensures cause { ReadsWithCause T.HasElements store.old store.new result }
 {
     match tell_system(alloc, store, hash, path, id) {
         Ok(reply) => Ok(reply),
@@ -104,13 +100,12 @@ fn tell_system<T: ElementStore + Extents, H: NameHash>(
     id: Id,
 ) -> Result<Reply, Stop>
     requires id { (1 ≤ id.0) × (id.0 ≤ GREATEST_ID) }
-    requires balanced { Balanced (T.elements store.old) (T.extents store.old) }
+    requires balanced { InBalance T.HasElements store.old }
     ensures answers { Looks T.elements T.mark T.extents T.room T.free (H.hash_of hash.now) id.0
         (λ (call : Call). call.command ≡ status word.now) store.old store.new result }
     ensures gives { Gives id.0 (status word.now) result }
-    ensures keeps { Same T.elements T.mark T.extents T.room T.free store.old store.new }
-    ensures borrowed { (T.name store.new ≡ T.name store.old)
-        × (T.frame store.new ≡ T.frame store.old) }
+    ensures keeps { IsSame T.HasElements store.old store.new }
+    ensures borrowed { KeepsFrame T.Counted store.old store.new }
     ensures cause { HasStopCause (T.elements store.old) (T.extents store.old)
         (T.faults store.old) (T.faults store.new) result }
 {

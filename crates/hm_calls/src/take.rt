@@ -1,14 +1,14 @@
 // Names that go, and with them a link of their object.
 ghost use Rattle.std.specs.Prelude.{◌≡◌, ◌<◌, ◌≤◌, OnOk};
-ghost use Rattle.hm_types.specs.Space.{Spends, nothing};
-ghost use Rattle.hm_key.specs.Balance.{Balanced};
-ghost use Rattle.hm_key.specs.Stores.{Keeps};
-ghost use Rattle.hm_cursor.specs.Told.{HasReadingCause};
-ghost use Rattle.hm_cursor.specs.Write.{Writes};
+ghost use Rattle.hm_types.specs.Space.{nothing};
+ghost use Rattle.hm_key.specs.Members.{InBalance, KeepsFrame, KeepsTold, SpendsAtMost};
+ghost use Rattle.hm_cursor.specs.Told.{ReadsWithCause};
+ghost use Rattle.hm_cursor.specs.Write.{WritesStore};
 ghost use Rattle.hm_objects.specs.Objects.{HasRooms, IsOlderIn, spent};
 ghost use Rattle.hm_files.specs.Close.{AreOlderIn};
 ghost use Rattle.hm_calls.specs.Known.{AreBelowIn};
-ghost use Rattle.hm_calls.specs.Writes.{DropsLink, DropsObject, HasReserves, TakesDirectory, TakesLink, place_in, reserves};
+ghost use Rattle.hm_calls.specs.Writes.{DropsLink, DropsObject, HasReserves, TakesDirectory, TakesLink, place_in};
+ghost use Rattle.hm_calls.specs.Writes.{reserves};
 
 use hm_dirs::{NameHash, Stand, close_name};
 use hm_files::remove_bytes;
@@ -30,19 +30,17 @@ pub(crate) fn take_link<T: ElementStore + Extents, H: NameHash>(
     id: Id,
 ) -> Result<(), Fault>
     requires id { 1 ≤ id.0 }
-    requires balanced { Balanced (T.elements store.old) (T.extents store.old) }
+    requires balanced { InBalance T.HasElements store.old }
     requires below { AreBelowIn (T.elements store.old) (T.extents store.old)
         directory.now.at.pfs.0 id.0 }
     requires room { 1 < links → HasReserves (T.room store.old) }
-    ensures ok { OnOk result (Writes T.elements T.extents
+    ensures ok { OnOk result (WritesStore T.HasElements
         (TakesLink (H.hash_of hash.now) (place_in directory.now name.now) id.0 obj links)
         store.old store.new) }
-    ensures keeps { Keeps T.elements T.extents store.old store.new result }
-    ensures space { Spends T.room T.free reserves store.old store.new }
-    ensures borrowed { (T.name store.new ≡ T.name store.old)
-        × (T.frame store.new ≡ T.frame store.old) }
-    ensures cause { HasReadingCause (T.elements store.old) (T.extents store.old)
-        (T.faults store.old) (T.faults store.new) result }
+    ensures keeps { KeepsTold T.HasElements store.old store.new result }
+    ensures space { SpendsAtMost T.HasElements reserves store.old store.new }
+    ensures borrowed { KeepsFrame T.Counted store.old store.new }
+    ensures cause { ReadsWithCause T.HasElements store.old store.new result }
 {
     let pfs = directory.at.pfs;
     close_name(store, hash, pfs, directory.at.object, name.bytes(), id)?;
@@ -59,18 +57,16 @@ pub(crate) fn take_directory<T: ElementStore + Extents, H: NameHash>(
     id: Id,
 ) -> Result<(), Fault>
     requires id { 1 ≤ id.0 }
-    requires balanced { Balanced (T.elements store.old) (T.extents store.old) }
+    requires balanced { InBalance T.HasElements store.old }
     requires below { AreBelowIn (T.elements store.old) (T.extents store.old)
         directory.now.at.pfs.0 id.0 }
-    ensures ok { OnOk result (Writes T.elements T.extents
+    ensures ok { OnOk result (WritesStore T.HasElements
         (TakesDirectory (H.hash_of hash.now) (place_in directory.now name.now) id.0 obj)
         store.old store.new) }
-    ensures keeps { Keeps T.elements T.extents store.old store.new result }
-    ensures space { Spends T.room T.free reserves store.old store.new }
-    ensures borrowed { (T.name store.new ≡ T.name store.old)
-        × (T.frame store.new ≡ T.frame store.old) }
-    ensures cause { HasReadingCause (T.elements store.old) (T.extents store.old)
-        (T.faults store.old) (T.faults store.new) result }
+    ensures keeps { KeepsTold T.HasElements store.old store.new result }
+    ensures space { SpendsAtMost T.HasElements reserves store.old store.new }
+    ensures borrowed { KeepsFrame T.Counted store.old store.new }
+    ensures cause { ReadsWithCause T.HasElements store.old store.new result }
 {
     let pfs = directory.at.pfs;
     close_name(store, hash, pfs, directory.at.object, name.bytes(), id)?;
@@ -88,18 +84,16 @@ pub(crate) fn drop_link<T: ElementStore + Extents>(
     id: Id,
 ) -> Result<(), Fault>
     requires id { 1 ≤ id.0 }
-    requires balanced { Balanced (T.elements store.old) (T.extents store.old) }
+    requires balanced { InBalance T.HasElements store.old }
     requires older { IsOlderIn (T.elements store.old) (T.extents store.old) pfs.0 obj.0 id.0 }
     requires bytes { AreOlderIn (T.elements store.old) (T.extents store.old) pfs.0 obj.0 id.0 0 }
     requires room { 1 < links → HasRooms (T.room store.old) 1 32 }
-    ensures ok { OnOk result (Writes T.elements T.extents (DropsLink pfs.0 id.0 obj links)
+    ensures ok { OnOk result (WritesStore T.HasElements (DropsLink pfs.0 id.0 obj links)
         store.old store.new) }
-    ensures keeps { Keeps T.elements T.extents store.old store.new result }
-    ensures space { Spends T.room T.free (spent 1 32) store.old store.new }
-    ensures borrowed { (T.name store.new ≡ T.name store.old)
-        × (T.frame store.new ≡ T.frame store.old) }
-    ensures cause { HasReadingCause (T.elements store.old) (T.extents store.old)
-        (T.faults store.old) (T.faults store.new) result }
+    ensures keeps { KeepsTold T.HasElements store.old store.new result }
+    ensures space { SpendsAtMost T.HasElements (spent 1 32) store.old store.new }
+    ensures borrowed { KeepsFrame T.Counted store.old store.new }
+    ensures cause { ReadsWithCause T.HasElements store.old store.new result }
 {
     if links > 1 {
         set_links(alloc, store, pfs, obj, links - 1, id)
@@ -115,17 +109,15 @@ fn drop_object<T: ElementStore + Extents>(
     obj: Obj,
     id: Id,
 ) -> Result<(), Fault>
-    requires balanced { Balanced (T.elements store.old) (T.extents store.old) }
+    requires balanced { InBalance T.HasElements store.old }
     requires older { IsOlderIn (T.elements store.old) (T.extents store.old) pfs.0 obj.0 id.0 }
     requires bytes { AreOlderIn (T.elements store.old) (T.extents store.old) pfs.0 obj.0 id.0 0 }
-    ensures ok { OnOk result (Writes T.elements T.extents
+    ensures ok { OnOk result (WritesStore T.HasElements
         (DropsObject pfs.0 id.0 obj) store.old store.new) }
-    ensures keeps { Keeps T.elements T.extents store.old store.new result }
-    ensures space { Spends T.room T.free nothing store.old store.new }
-    ensures borrowed { (T.name store.new ≡ T.name store.old)
-        × (T.frame store.new ≡ T.frame store.old) }
-    ensures cause { HasReadingCause (T.elements store.old) (T.extents store.old)
-        (T.faults store.old) (T.faults store.new) result }
+    ensures keeps { KeepsTold T.HasElements store.old store.new result }
+    ensures space { SpendsAtMost T.HasElements nothing store.old store.new }
+    ensures borrowed { KeepsFrame T.Counted store.old store.new }
+    ensures cause { ReadsWithCause T.HasElements store.old store.new result }
 {
     remove_object(store, pfs, obj, id)?;
     remove_bytes(store, pfs, obj, id)

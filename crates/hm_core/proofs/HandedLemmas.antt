@@ -32,10 +32,11 @@ use Rattle.hm_key.specs.declared.job.Progress.TheVariants.{Done, More}
 use Rattle.hm_cursor.specs.Told.{Lists}
 use Rattle.hm_model.specs.Volume.{Volume}
 use Rattle.hm_search.specs.Tree.{elements_of}
+use Rattle.hm_image.specs.Referred.{references_of}
 use Rattle.hm_stored.specs.Basis.{nodes}
 use Rattle.hm_stored.specs.Content.{HaveContent, KeepsContent, TellsContent}
 use Rattle.hm_stored.specs.Heap.{Frame, Heap, basis_with, begun_content, bytes_of, does_tell, extents_in, frame_of, pages_of, places_in, room_of}
-use Rattle.hm_stored.specs.Held.{HeldBy, IsKept, uses_of}
+use Rattle.hm_stored.specs.Held.{HeldBy, IsKept}
 use Rattle.hm_stored.specs.Known.{AreKnown}
 use Rattle.hm_stored.specs.Log.{filled}
 use Rattle.hm_stored.specs.Standing.{Holds}
@@ -173,9 +174,9 @@ told_root h begin root begins told kept tree =
       by : (refs : List Reference) × HeldBy h (basis_with h begin) refs → IsTreeSpace (nodes h.pages.current) root → IsRoot h.bigblocks root
       by (refs, held) space =
           let there = space.sound.there in
-          let counted : count_by (is_extent (reference root PAGE_BYTES)) refs ≡ 1 + uses_of (rounded PAGE_BYTES) (extent_at root (places_in h)) =
+          let counted : count_by (is_extent (reference root PAGE_BYTES)) refs ≡ 1 + references_of PAGE_BYTES (extent_at root (places_in h)) =
           held.counted root PAGE_BYTES
-          ∙ ap (λ (b : Bool). cond b 1 0 + uses_of (rounded PAGE_BYTES) (extent_at root (places_in h))) there in
+          ∙ ap (λ (b : Bool). cond b 1 0 + references_of PAGE_BYTES (extent_at root (places_in h))) there in
           let one = one_counted (IsPlaced h.bigblocks) (reference root PAGE_BYTES) refs (omega (arith, counted))
           (recursion_from_All (IsPlaced h.bigblocks) refs (all_left (IsPlaced h.bigblocks) refs _ held.stand.placed)) in
           placed_root h.bigblocks root one.0 one.1 (node_zone h.pages.current root there) one.2

@@ -30,7 +30,7 @@ use Rattle.hm_model.specs.Volume.{Volume}
 use Rattle.hm_model.specs.declared.entry.Entry.{Entry}
 use Rattle.hm_prune.specs.Dead.{NoneDead, keeps_in}
 use Rattle.hm_reblock.specs.Choice.{NoneChosen, SomeChosen, SomeChosenIn}
-use Rattle.hm_relocate.specs.Unit.{HasGotOn, IsToMove, LacksForOne, MovesChosenNode, TurnsToNodes, Way}
+use Rattle.hm_relocate.specs.Unit.{HasChosenNode, HasGotOn, IsToMove, LacksForOne, MovesChosenNode, TurnsToNodes, Way}
 use Rattle.hm_records.proofs.MemberLemmas.{map_has}
 use Rattle.hm_step.specs.Pruned.{KeepsWithin}
 use Rattle.hm_step.proofs.PrunedLemmas.{stand_pruned}
@@ -167,6 +167,12 @@ module _ (ids : ℕ → Option (List (ℕ × ℕ))) (h h1 h2 h' : Heap) (root ro
       (told_from h1 root1 P (content_some (told_elements true (pages_of h1) root1) (extents_in h1) _ P
       (tells_begun h h1 root root1 last closed kept opens same volume holds holds.elements.0 holds.elements.1) told))
 
+  -- the store tells the nodes of the space before it
+  pages_begun : (volume : Volume) → HoldsVolume h root last volume → pages_of h1 ≡ Some (nodes h.pages.current)
+  pages_begun volume holds =
+      let told = tells_begun h h1 root root1 last closed kept opens same volume holds holds.elements.0 holds.elements.1 in
+      pages_told h1 (does_tell_lists h1 root1 _ told) ∙ ap (λ (m : PageMap). Some (nodes m)) opens.pages.current
+
   -- it was kept
   module _ (whole : h2.whole ≡ true) (keeps : IsKeptOf h2 h') (content : KeepsContent h2 h') (root_is : root' ≡ root2) (pages : ArePages h')
       (tree : HoldsTree (pages_of h2) root2)
@@ -242,8 +248,7 @@ module _ (ids : ℕ → Option (List (ℕ × ℕ))) (h h1 h2 h' : Heap) (root ro
     node_out choice volume holds node =
         let tells =
         does_tell_lists h1 root1 _ (tells_begun h h1 root root1 last closed kept opens same volume holds holds.elements.0 holds.elements.1) in
-        let first : pages_of h1 ≡ Some (nodes h.pages.current) =
-        pages_told h1 tells ∙ ap (λ (m : PageMap). Some (nodes m)) opens.pages.current in
+        let first : pages_of h1 ≡ Some (nodes h.pages.current) = pages_begun volume holds in
         let second : pages_of h2 ≡ Some (nodes h'.pages.current) =
         pages_told h2 (tells_still h1 h2 whole (ap (λ (f : Frame). f.content) frame) tells)
         ∙ ap (λ (m : PageMap). Some (nodes m)) (sym keeps.pages.current) in
@@ -332,13 +337,15 @@ module _ (ids : ℕ → Option (List (ℕ × ℕ))) (h h1 h2 h' : Heap) (root ro
         by (Some was) told is = is
 
   -- from where the open call may move something, it may be moved before it
-  moved_begun : (choice : List ℕ) (zone : ℕ) → IsToMove choice (told_elements true (pages_of h1) root1) zone → MayMoveFrom zone choice last h root
-  moved_begun choice zone (inl node) volume holds = inl node
+  moved_begun : (choice : List ℕ) (zone : ℕ) → IsToMove choice (pages_of h1) (told_elements true (pages_of h1) root1) zone
+      → MayMoveFrom zone choice last h root
+  moved_begun choice zone (inl node) volume holds =
+      inl (node.0, subst (λ (o : Option PageMap). IfSome o (HasChosenNode choice)) (pages_begun volume holds) node.1)
   moved_begun choice zone (inr told) volume holds = inr (tells_before (SomeChosenIn zone choice) volume holds told)
 
   -- where a zone lacked its reserve in the open call, it did so before
   pub lacks_begun : {T : Type 0} (choice : List ℕ) (result : Result T SpaceFault)
-      → IfErr result (IfNoSpace (LacksForOne choice (told_elements true (pages_of h1) root1) (room_of h1) (free_of h1)))
+      → IfErr result (IfNoSpace (LacksForOne choice (pages_of h1) (told_elements true (pages_of h1) root1) (room_of h1) (free_of h1)))
       → IfErr result (IfNoSpace (LacksForChoice choice last h root))
   lacks_begun choice (Ok x) is = tt
   lacks_begun choice (Err (of_store fault)) is = tt

@@ -13,7 +13,7 @@ use Rattle.hm_key.specs.declared.element.Element.{Element}
 use Rattle.hm_key.specs.declared.job.Progress.{Progress}
 use Rattle.hm_model.specs.Volume.{Volume}
 use Rattle.hm_reblock.specs.Choice.{NoneChosen, SomeChosen, SomeChosenIn}
-use Rattle.hm_relocate.specs.Unit.{TurnsToNodes, Way}
+use Rattle.hm_relocate.specs.Unit.{HasChosenNode, TurnsToNodes, Way}
 use Rattle.hm_step.specs.Pruned.{KeepsWithin}
 use Rattle.hm_stored.specs.Basis.{nodes}
 use Rattle.hm_stored.specs.Heap.{Heap, free_of, room_of}
@@ -119,11 +119,11 @@ pub record LacksRoom (h : Heap) (free needed : ℕ) : Type 0 where
   pub free_is : (free ≡ free_of h) × (free ≡ 0)
   pub needed_is : needed ≡ 1
 
--- A reblock with this choice may have something to move from a zone: where a space holds a volume, this zone is that of nodes, or a payload
--- that lies in the choice stands there.
+-- A reblock with this choice may have something to move from a zone: where a space holds a volume, something stands there that lies in the
+-- choice, which is a node, in the zone of these, or a payload.
 abbrev pub MayMoveFrom : ℕ → List ℕ → ℕ → Heap → ℕ → Type 0
 MayMoveFrom zone choice last h root = (volume : Volume) → HoldsVolume h root last volume
-    → (zone ≡ TREE_ZONE) ⊎ IsSomeAnd (tree_elements h root) (SomeChosenIn zone choice)
+    → ((zone ≡ TREE_ZONE) × HasChosenNode choice (nodes h.pages.current)) ⊎ IsSomeAnd (tree_elements h root) (SomeChosenIn zone choice)
 
 -- A reblock lacks room for what it is to move: the zone that lacks its reserve is one from which it may move something.
 pub record LacksForChoice (choice : List ℕ) (last : ℕ) (h : Heap) (root free needed : ℕ) : Type 0 where

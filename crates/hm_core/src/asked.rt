@@ -35,7 +35,8 @@ pub(crate) fn answer_asked<D: Disk>(
     requires left { last.0 < GREATEST_ID }
     ensures answers { AnswersOver numbers flusher.now.header.last.0 (D.faults stored.old.space.disk)
         (D.faults stored.new.space.disk) last.0 command.now
-        (heap stored.old.space) (heap stored.new.space) stored.old.root stored.new.root (reply_of_outcome result) (work_of result) }
+        (heap stored.old.space) (heap stored.new.space) stored.old.root stored.new.root
+        (reply_of_outcome result) (work_of result) }
     ensures crashes { LeavesNow (D.left_since stored.old.space.disk) (D.left_since stored.new.space.disk)
         (D.told stored.new.space.disk) }
     ensures begins { IfOpened result (λ work. BeginsBy command.now (heap stored.old.space) (choice_of_work work)) }

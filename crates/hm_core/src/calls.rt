@@ -39,7 +39,8 @@ pub fn answer_over<D: Disk>(
     requires left { last.0 < GREATEST_ID }
     ensures answers { (boundary : ℕ) → AnswersOver numbers boundary (D.faults stored.old.space.disk)
         (D.faults stored.new.space.disk) last.0 command.now
-        (heap stored.old.space) (heap stored.new.space) stored.old.root stored.new.root (reply_of_outcome result) (work_of result) }
+        (heap stored.old.space) (heap stored.new.space) stored.old.root stored.new.root
+        (reply_of_outcome result) (work_of result) }
     ensures crashes { LeavesNow (D.left_since stored.old.space.disk) (D.left_since stored.new.space.disk)
         (D.told stored.new.space.disk) }
     ensures begins { IfOpened result (λ work. BeginsBy command.now (heap stored.old.space) (choice_of_work work)) }

@@ -34,13 +34,14 @@ impl<D: Disk, I, O> Core<D, I, O> {
     /// of its opening; it has its place in the history. `Finished` tells that nothing is left that is
     /// dead for what a prune keeps, and that the choice of a reblock is empty. A unit or stage that fails
     /// ends the call too: its reply tells the fault, what that unit changed is dropped, and the units
-    /// before it stand. So does a unit of a reblock that needs a big-block where none is free: `NoSpace`. It
-    /// needs that in the zone of nodes or, where the space holds a volume, in one where a payload of its
-    /// choice stands.
+    /// before it stand. So does a unit of a reblock that needs a big-block where none is free: `NoSpace`. Where
+    /// the space holds a volume, it needs that in a zone where something of its choice stands: a node of the
+    /// tree, or a payload.
     pub fn job_unit(&mut self, ticket: Ticket) -> UnitEnd
         requires runs { IsOpenJob ticket.opening.0 (seen self.old) }
         ensures units { Units ticket.opening.0 (seen self.old) (seen self.new) result }
-        ensures work { WorksByUnit ticket.opening.0 (progress_of ticket.opening.0 self.old) (progress_of ticket.opening.0 self.new)
+        ensures work { WorksByUnit ticket.opening.0
+            (progress_of ticket.opening.0 self.old) (progress_of ticket.opening.0 self.new)
             (choice_of ticket.opening.0 self.old) (choice_of ticket.opening.0 self.new) (seen self.old) (seen self.new) result }
         ensures others { KeepOtherChoices ticket.opening.0 (λ id. choice_of id self.old) (λ id. choice_of id self.new)
             (seen self.old).running }

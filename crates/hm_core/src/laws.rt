@@ -1,6 +1,6 @@
 // What a core that answers by a store over a space rests on: each function states one law, and does nothing.
-ghost use Rattle.std.specs.Prelude.{◌≡◌, ◌⊎◌, ℕ, ◌+◌, ◌^◌, ◌<◌, ◌≤◌, [], ◌∷◌, ◌++◌};
-ghost use Rattle.std.specs.Prelude.{IfErr, IfSome, IsTrue, true, List, Option, Result, length};
+ghost use Rattle.std.specs.Prelude.{◌≡◌, ◌⊎◌, ℕ, ◌+◌, ◌^◌, ◌<◌, ◌≤◌, [], ◌∷◌, ◌++◌, IfErr, IfSome, IsTrue, true};
+ghost use Rattle.std.specs.Prelude.{List, Option, Result, length};
 ghost use Rattle.hm_types.specs.Elements.{FullElement};
 ghost use Rattle.hm_types.specs.Space.{reserve_of};
 ghost use Rattle.hm_types.specs.declared.fault.Fault.{Fault};
@@ -51,7 +51,8 @@ ghost use Rattle.hm_core.specs.Replied.{IsReplied, free_now};
 ghost use Rattle.hm_core.specs.Seen.{seen, store_in};
 ghost use Rattle.hm_core.specs.Served.{IsServed, IsSync};
 ghost use Rattle.hm_core.specs.State.{CoreState, OpenJob};
-ghost use Rattle.hm_core.specs.Told.{ArePages, HoldsSame, HoldsTold, OpensStore, TellsFailure, TellsHeld, TellsSpace, reply_to};
+ghost use Rattle.hm_core.specs.Told.{ArePages, HoldsSame, HoldsTold, OpensStore, TellsFailure, TellsHeld};
+ghost use Rattle.hm_core.specs.Told.{TellsSpace, reply_to};
 ghost use Rattle.hm_core.specs.declared.volume.Core.{Core};
 ghost use Rattle.hm_state.specs.Volume.{HoldsVolume};
 

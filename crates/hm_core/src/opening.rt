@@ -25,7 +25,8 @@ pub(crate) fn open_reblock<D: Disk>(alloc: Global, stored: &mut Stored<D>, fill:
     requires closed { IsClosed (heap stored.old.space) }
     ensures answers { (numbers boundary last : ℕ) → last < GREATEST_ID →
         AnswersOver numbers boundary (D.faults stored.old.space.disk) (D.faults stored.new.space.disk) last (Reblock fill)
-        (heap stored.old.space) (heap stored.new.space) stored.old.root stored.new.root (reply_of_outcome result) (work_of result) }
+        (heap stored.old.space) (heap stored.new.space) stored.old.root stored.new.root
+        (reply_of_outcome result) (work_of result) }
     ensures crashes { LeavesNow (D.left_since stored.old.space.disk) (D.left_since stored.new.space.disk)
         (D.told stored.new.space.disk) }
     ensures begins { IfOpened result (λ work. BeginsBy (Reblock fill) (heap stored.old.space) (choice_of_work work)) }

@@ -21,8 +21,8 @@ use hm_types::{Fault, Id, SpaceFault};
 /// or drops it all where the device failed, memory was refused, no big-block was free, or the root of the tree
 /// would stand outside the pool: that is answered as want of memory. Each volume that the store held it holds
 /// still. A big-block leaves the choice only where a zone appends to it, or nothing is live in it, and at its
-/// end none is left. Where there is more to do it got on. Room lacks only in the zone of nodes, or in one where
-/// a payload of the choice stands. What a crash within it may have left, one afterwards may.
+/// end none is left. Where there is more to do it got on. Room lacks only in a zone where a node or a
+/// payload of the choice stands. What a crash within it may have left, one afterwards may.
 pub(crate) fn reblock_over<D: Disk>(
     stored: &mut Stored<D>,
     reblock: &mut Relocation,

@@ -10,7 +10,7 @@ use Rattle.hm_key.specs.declared.base.Base.{Base}
 use Rattle.hm_key.specs.declared.element.Element.{Element}
 use Rattle.hm_key.proofs.KeyLemmas.{key_before_from, key_from_before, key_not_before}
 use Rattle.hm_key.proofs.RiseLemmas.{before_rises, before_unless, from_rises, wide_to_greatest}
-use Rattle.hm_cursor.specs.Shown.{IsAfter, IsNext, IsNextOf, IsShown, IsToCome}
+use Rattle.hm_cursor.specs.Shown.{IsAfter, IsNext, IsNextShown, IsShown, IsToCome}
 use Rattle.hm_cursor.specs.declared.cursor.Cursor.{Cursor}
 use Rattle.hm_cursor.proofs.SearchLemmas.{IsFirstFrom, found_none}
 use Rattle.hm_cursor.proofs.VersionLemmas.{first_before}
@@ -42,7 +42,7 @@ module _ (es : List Element) (cursor : Cursor) (at : Base) (e : Element) (search
     next_from other has shown come = first_before es (key_of at) e other search has (passed other has shown come)
 
     -- what a search finds is the next one, if it is shown
-    pub next_found : IsNextOf es cursor e
+    pub next_found : IsNextShown es cursor e
     next_found = record { there = search.there; first = next_from }
 
     -- nothing is to come where a search finds an element of a later localization

@@ -19,7 +19,7 @@ abbrev pub IsToCome : Option Base → Key → Type 0
 IsToCome from key = IsSomeAnd from (λ at. IsFrom (key_of at) key)
 
 -- of the elements that a cursor shows this is the next one to come
-pub record IsNextOf (es : List Element) (cursor : Cursor) (e : Element) : Type 0 where
+pub record IsNextShown (es : List Element) (cursor : Cursor) (e : Element) : Type 0 where
   pub there : Contains es e
   pub first : (other : Element) → Contains es other → IsShown cursor.localization cursor.as_of.0 other
       → IsToCome cursor.from (element_key other) → IsFrom (element_key e) (element_key other)
@@ -29,7 +29,7 @@ abbrev pub IsNext : List Element → Cursor → Option Element → Type 0
 IsNext es cursor None =
     (other : Element) → Contains es other → IsShown cursor.localization cursor.as_of.0 other
     → IsToCome cursor.from (element_key other) → ⊥
-IsNext es cursor (Some e) = IsNextOf es cursor e
+IsNext es cursor (Some e) = IsNextShown es cursor e
 
 -- A cursor goes past an element that it shows and that was to come: then those after it are to come, and no others.
 pub record IsPast (old : Cursor) (e : Element) (new : Cursor) : Type 0 where
@@ -44,9 +44,9 @@ abbrev pub IsAfter : Base → Option Base → Type 0
 IsAfter base from = (key : Key) → IsWide key → IsToCome from key ↔ IsBefore (key_of base) key
 
 -- a cursor that answers an element goes past it, and one that answers none stays
-abbrev pub Passes : Cursor → Option Element → Cursor → Type 0
-Passes old None new = new ≡ old
-Passes old (Some e) new = IsPast old e new
+abbrev pub GoesPast : Cursor → Option Element → Cursor → Type 0
+GoesPast old None new = new ≡ old
+GoesPast old (Some e) new = IsPast old e new
 
 -- a cursor of a localization stands at a key: what is to come there is what stands at the key or after it
 pub record StandsAt (localization t : ℕ) (at : Key) (cursor : Cursor) : Type 0 where

@@ -10,6 +10,7 @@ use Rattle.hm_key.specs.Balance.{IsBalanced, content_of, full_elements, full_of}
 use Rattle.hm_key.specs.Counts.{Counts, Subject, inode_subject, record_subject, subject_of}
 use Rattle.hm_key.specs.Elements.{element_key}
 use Rattle.hm_key.specs.Extents.{Extent}
+use Rattle.hm_key.specs.Members.{StoreMembers}
 use Rattle.hm_key.specs.declared.element.Element.{Element}
 use Rattle.hm_records.specs.Changes.{CountsNothing, HasInode}
 use Rattle.hm_records.specs.Payload.{IsPayload}
@@ -56,6 +57,10 @@ IsPayloadDamage lists NoMemory = Unit {0}
 pub record HasReadingCause {T : Type 0} (es : Option (List Element)) (xs : Option (List Extent)) (old new : ℕ) (result : Result T Fault) : Type 0 where
   pub counted : HasFaultCause old new result
   pub damage : OnBalanced es xs (λ lists. IfErr result (IsPayloadDamage lists))
+
+-- the same of a call of a store
+abbrev pub ReadsWithCause : {S T : Type 0} → StoreMembers S → S → S → Result T Fault → Type 0
+ReadsWithCause g old new result = HasReadingCause (g.elements old) (g.extents old) (g.faults old) (g.faults new) result
 
 -- a fault that tells damage tells it of the payload of an element about a subject, which is longer than a buffer
 abbrev pub IsLongPayload : Lists → Subject → ℕ → Fault → Type 0

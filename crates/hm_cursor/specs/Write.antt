@@ -11,6 +11,7 @@ use Rattle.hm_key.specs.Element.{IsElement}
 use Rattle.hm_key.specs.Elements.{element_key, with_delete}
 use Rattle.hm_key.specs.Extents.{Extent}
 use Rattle.hm_key.specs.Key.{key_of}
+use Rattle.hm_key.specs.Members.{StoreMembers}
 use Rattle.hm_key.specs.declared.base.Base.{Base}
 use Rattle.hm_key.specs.declared.element.Element.{Element}
 use Rattle.hm_records.specs.Changes.{CountSame, CountsNothing, Overrides}
@@ -66,6 +67,10 @@ Writes elements_of extents_of Change old new =
     IfSome (content_of (elements_of old) (extents_of old)) (λ was. IsBalanced was.0 was.1
     → IsSomeAnd (content_of (elements_of new) (extents_of new))
     (λ now. IsBalanced now.0 now.1 × Change (fulls was) (fulls now)))
+
+-- the same of a store
+abbrev pub WritesStore : {S : Type 0} → StoreMembers S → (List FullElement → List FullElement → Type 0) → S → S → Type 0
+WritesStore g Change old new = Writes g.elements g.extents Change old new
 
 -- the most bytes that a payload has
 abbrev pub most_payload : ℕ

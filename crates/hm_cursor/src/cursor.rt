@@ -1,10 +1,9 @@
 // A walk along the elements that are seen as of an id.
 ghost use Rattle.std.specs.Prelude.{◌≡◌, ◌↔◌, IfSome, IfOk, OnErr, OnOk, IsTrue};
 ghost use Rattle.hm_types.specs.Elements.{Sees};
-ghost use Rattle.hm_types.specs.Faults.{HasStoreCause};
 ghost use Rattle.hm_key.specs.Key.{key_of, least_key};
-ghost use Rattle.hm_key.specs.Stores.{Same};
-ghost use Rattle.hm_cursor.specs.Shown.{IsNext, Passes, StandsAt};
+ghost use Rattle.hm_key.specs.Members.{HasElementsCause, IsSame, KeepsFrame};
+ghost use Rattle.hm_cursor.specs.Shown.{IsNext, GoesPast, StandsAt};
 
 use hm_key::{Base, Element, ElementStore};
 use hm_types::{Counted, Fault, Id};
@@ -39,11 +38,10 @@ impl Cursor {
     pub fn seek<T: ElementStore>(&mut self, store: &mut T, at: &Base) -> Result<(), Fault>
         ensures ok { OnOk result (StandsAt self.old.localization self.old.as_of.0 (key_of at.now)
             self.new) }
-        ensures keeps { Same T.elements T.mark T.extents T.room T.free store.old store.new }
+        ensures keeps { IsSame T.HasElements store.old store.new }
         ensures name { T.name store.new ≡ T.name store.old }
         ensures frame { T.frame store.new ≡ T.frame store.old }
-        ensures cause { HasStoreCause (T.elements store.old)
-            (T.faults store.old) (T.faults store.new) result }
+        ensures cause { HasElementsCause T.HasElements store.old store.new result }
     {
         self.from = Some(if at.localization < self.localization {
             Base {
@@ -61,13 +59,11 @@ impl Cursor {
     pub fn next<T: ElementStore>(&mut self, store: &mut T) -> Result<Option<Element>, Fault>
         ensures ok { IfSome (T.elements store.old) (λ es.
             IfOk result (IsNext es self.old)) }
-        ensures passes { IfOk result (λ found. Passes self.old found self.new) }
+        ensures passes { IfOk result (λ found. GoesPast self.old found self.new) }
         ensures err { OnErr result (self.new ≡ self.old) }
-        ensures keeps { Same T.elements T.mark T.extents T.room T.free store.old store.new }
-        ensures borrowed { (T.name store.new ≡ T.name store.old)
-            × (T.frame store.new ≡ T.frame store.old) }
-        ensures cause { HasStoreCause (T.elements store.old)
-            (T.faults store.old) (T.faults store.new) result }
+        ensures keeps { IsSame T.HasElements store.old store.new }
+        ensures borrowed { KeepsFrame T.Counted store.old store.new }
+        ensures cause { HasElementsCause T.HasElements store.old store.new result }
     {
         let mut from = self.from;
         while let Some(at) = from {

@@ -1,17 +1,10 @@
 // What counts about a subject, read from its payload.
 ghost use Rattle.std.specs.Prelude.{◌≡◌, ◌≤◌, IfOk, IfSome, length};
-ghost use Rattle.hm_key.specs.Balance.{Balanced};
 ghost use Rattle.hm_key.specs.Counts.{subject_of};
 ghost use Rattle.hm_key.specs.Key.{key_of};
-ghost use Rattle.hm_key.specs.Stores.{Same};
-ghost use Rattle.hm_cursor.specs.Told.{
-  CountsBytes,
-  HasReadingCause,
-  HasSearchingCause,
-  IsInodeThen,
-  IsRecordNow,
-  OnBalanced,
-};
+ghost use Rattle.hm_key.specs.Members.{InBalance, IsSame, KeepsFrame};
+ghost use Rattle.hm_cursor.specs.Told.{CountsBytes, HasSearchingCause, IsInodeThen, IsRecordNow, OnBalanced};
+ghost use Rattle.hm_cursor.specs.Told.{ReadsWithCause};
 
 use crate::payload::read_payload;
 use crate::subject::{inode_base, record_base};
@@ -37,13 +30,12 @@ pub fn find_payload<T: ElementStore + Extents>(
     as_of: Id,
     buffer: &mut [u8],
 ) -> Result<Option<(Element, usize)>, Fault>
-    requires balanced { Balanced (T.elements store.old) (T.extents store.old) }
+    requires balanced { InBalance T.HasElements store.old }
     ensures fits { IfOk result (λ found. IfSome found (λ pair. pair.1 ≤ length buffer.new)) }
     ensures ok { IfOk result (λ found. OnBalanced (T.elements store.old) (T.extents store.old)
         (λ lists. CountsBytes lists as_of.0 (subject_of (key_of at.now)) buffer.new found)) }
-    ensures keeps { Same T.elements T.mark T.extents T.room T.free store.old store.new }
-    ensures borrowed { (T.name store.new ≡ T.name store.old)
-        × (T.frame store.new ≡ T.frame store.old) }
+    ensures keeps { IsSame T.HasElements store.old store.new }
+    ensures borrowed { KeepsFrame T.Counted store.old store.new }
     ensures cause { HasSearchingCause (T.elements store.old) (T.extents store.old)
         (subject_of (key_of at.now)) (length buffer.old)
         (T.faults store.old) (T.faults store.new) result }
@@ -64,14 +56,12 @@ pub fn find_inode<T: ElementStore + Extents>(
     obj: Obj,
     as_of: Id,
 ) -> Result<Option<Inode>, Fault>
-    requires balanced { Balanced (T.elements store.old) (T.extents store.old) }
+    requires balanced { InBalance T.HasElements store.old }
     ensures ok { IfOk result (λ found. OnBalanced (T.elements store.old) (T.extents store.old)
         (λ lists. IsInodeThen lists as_of.0 pfs.0 obj.0 found)) }
-    ensures keeps { Same T.elements T.mark T.extents T.room T.free store.old store.new }
-    ensures borrowed { (T.name store.new ≡ T.name store.old)
-        × (T.frame store.new ≡ T.frame store.old) }
-    ensures cause { HasReadingCause (T.elements store.old) (T.extents store.old)
-        (T.faults store.old) (T.faults store.new) result }
+    ensures keeps { IsSame T.HasElements store.old store.new }
+    ensures borrowed { KeepsFrame T.Counted store.old store.new }
+    ensures cause { ReadsWithCause T.HasElements store.old store.new result }
 {
     let mut bytes = [0; INODE_BYTES];
     match find_payload(store, &inode_base(pfs, obj), as_of, &mut bytes)? {
@@ -88,14 +78,12 @@ pub fn find_record<T: ElementStore + Extents>(
     store: &mut T,
     pfs: Pfs,
 ) -> Result<Option<PfsRecord>, Fault>
-    requires balanced { Balanced (T.elements store.old) (T.extents store.old) }
+    requires balanced { InBalance T.HasElements store.old }
     ensures ok { IfOk result (λ found. OnBalanced (T.elements store.old) (T.extents store.old)
         (λ lists. IsRecordNow lists pfs.0 found)) }
-    ensures keeps { Same T.elements T.mark T.extents T.room T.free store.old store.new }
-    ensures borrowed { (T.name store.new ≡ T.name store.old)
-        × (T.frame store.new ≡ T.frame store.old) }
-    ensures cause { HasReadingCause (T.elements store.old) (T.extents store.old)
-        (T.faults store.old) (T.faults store.new) result }
+    ensures keeps { IsSame T.HasElements store.old store.new }
+    ensures borrowed { KeepsFrame T.Counted store.old store.new }
+    ensures cause { ReadsWithCause T.HasElements store.old store.new result }
 {
     // A closed record is none: as of the greatest id the open ones are seen, and no others.
     let Some(element) = version_at(store, &record_base(pfs), Id(u64::MAX))? else {

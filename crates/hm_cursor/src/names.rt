@@ -1,19 +1,12 @@
 // The names of a directory.
 ghost use Rattle.std.specs.Prelude.{◌≡◌, IfErr, IfOk, IfSome, List, ℕ};
 ghost use Rattle.hm_types.specs.Faults.{HasFaultCause};
-ghost use Rattle.hm_key.specs.Balance.{Balanced, IsHeld, payload_of};
+ghost use Rattle.hm_key.specs.Balance.{IsHeld, payload_of};
 ghost use Rattle.hm_key.specs.Counts.{Counts, entry_subject};
-ghost use Rattle.hm_key.specs.Stores.{Same};
+ghost use Rattle.hm_key.specs.Members.{InBalance, IsSame, KeepsFrame};
 ghost use Rattle.hm_records.specs.KeysFit.{KeysFit};
-ghost use Rattle.hm_cursor.specs.Names.{
-  IsBehind,
-  LeadsAt,
-  IsNameIn,
-  IsNoEntry,
-  IsObjectNamed,
-  IsPreviousName,
-};
-ghost use Rattle.hm_cursor.specs.Told.{HasReadingCause, OnBalanced, fulls};
+ghost use Rattle.hm_cursor.specs.Names.{IsBehind, LeadsAt, IsNameIn, IsNoEntry, IsObjectNamed, IsPreviousName};
+ghost use Rattle.hm_cursor.specs.Told.{OnBalanced, ReadsWithCause, fulls};
 ghost use Rattle.hm_cursor.specs.Version.{IsNewestOf};
 
 use crate::payload::read_payload;
@@ -41,9 +34,8 @@ pub fn object_named<T: Extents>(
     requires held { IfSome (T.extents store.old) (λ xs. IsHeld xs entry.now) }
     ensures ok { IfSome (T.extents store.old) (λ xs.
         IfOk result (IsObjectNamed (payload_of xs entry.now) name.now)) }
-    ensures keeps { Same T.elements T.mark T.extents T.room T.free store.old store.new }
-    ensures borrowed { (T.name store.new ≡ T.name store.old)
-        × (T.frame store.new ≡ T.frame store.old) }
+    ensures keeps { IsSame T.HasElements store.old store.new }
+    ensures borrowed { KeepsFrame T.Counted store.old store.new }
     ensures counted { HasFaultCause (T.faults store.old) (T.faults store.new) result }
     ensures damage { IfSome (T.extents store.old) (λ xs. IfErr result (IsNoEntry xs entry.now)) }
 {
@@ -75,15 +67,13 @@ pub fn find_name<T: ElementStore + Extents>(
     name: &[u8],
     as_of: Id,
 ) -> Result<Option<(u64, Obj)>, Fault>
-    requires balanced { Balanced (T.elements store.old) (T.extents store.old) }
+    requires balanced { InBalance T.HasElements store.old }
     ensures ok { IfOk result (λ found. OnBalanced (T.elements store.old) (T.extents store.old)
         (λ lists. IsNameIn (Counts (fulls lists) as_of.0) pfs.0 directory first last
         name.now found)) }
-    ensures keeps { Same T.elements T.mark T.extents T.room T.free store.old store.new }
-    ensures borrowed { (T.name store.new ≡ T.name store.old)
-        × (T.frame store.new ≡ T.frame store.old) }
-    ensures cause { HasReadingCause (T.elements store.old) (T.extents store.old)
-        (T.faults store.old) (T.faults store.new) result }
+    ensures keeps { IsSame T.HasElements store.old store.new }
+    ensures borrowed { KeepsFrame T.Counted store.old store.new }
+    ensures cause { ReadsWithCause T.HasElements store.old store.new result }
 {
     let mut found = None;
     let mut key = last;
@@ -121,15 +111,13 @@ pub fn previous_name<T: ElementStore + Extents>(
     last: u64,
     as_of: Id,
 ) -> Result<Option<(u64, DirEntry)>, Fault>
-    requires balanced { Balanced (T.elements store.old) (T.extents store.old) }
+    requires balanced { InBalance T.HasElements store.old }
     ensures ok { IfOk result (λ found. OnBalanced (T.elements store.old) (T.extents store.old)
         (λ lists. (hash : List ℕ → ℕ) → KeysFit hash (fulls lists) →
         IsPreviousName (Counts (fulls lists) as_of.0) pfs.0 directory first last found)) }
-    ensures keeps { Same T.elements T.mark T.extents T.room T.free store.old store.new }
-    ensures borrowed { (T.name store.new ≡ T.name store.old)
-        × (T.frame store.new ≡ T.frame store.old) }
-    ensures cause { HasReadingCause (T.elements store.old) (T.extents store.old)
-        (T.faults store.old) (T.faults store.new) result }
+    ensures keeps { IsSame T.HasElements store.old store.new }
+    ensures borrowed { KeepsFrame T.Counted store.old store.new }
+    ensures cause { ReadsWithCause T.HasElements store.old store.new result }
 {
     let mut key = last;
     while first <= key {
@@ -157,16 +145,14 @@ fn leading_entry<T: ElementStore + Extents>(
     element: &Element,
     as_of: Id,
 ) -> Result<Option<DirEntry>, Fault>
-    requires balanced { Balanced (T.elements store.old) (T.extents store.old) }
+    requires balanced { InBalance T.HasElements store.old }
     requires counts { IfSome (T.elements store.old) (λ es. IsNewestOf es
         (entry_subject pfs.0 directory.0 element.now.base.key) as_of.0 element.now) }
     ensures ok { IfOk result (λ found. OnBalanced (T.elements store.old) (T.extents store.old)
         (λ lists. LeadsAt lists as_of.0 pfs.0 directory element.now.base.key found)) }
-    ensures keeps { Same T.elements T.mark T.extents T.room T.free store.old store.new }
-    ensures borrowed { (T.name store.new ≡ T.name store.old)
-        × (T.frame store.new ≡ T.frame store.old) }
-    ensures cause { HasReadingCause (T.elements store.old) (T.extents store.old)
-        (T.faults store.old) (T.faults store.new) result }
+    ensures keeps { IsSame T.HasElements store.old store.new }
+    ensures borrowed { KeepsFrame T.Counted store.old store.new }
+    ensures cause { ReadsWithCause T.HasElements store.old store.new result }
 {
     let mut bytes = [0; MOST_ENTRY_BYTES];
     let len = read_payload(store, element, &mut bytes)?;
@@ -195,14 +181,12 @@ fn is_hidden<T: ElementStore + Extents>(
     name: &[u8],
     as_of: Id,
 ) -> Result<bool, Fault>
-    requires balanced { Balanced (T.elements store.old) (T.extents store.old) }
+    requires balanced { InBalance T.HasElements store.old }
     ensures ok { IfOk result (λ hidden. OnBalanced (T.elements store.old) (T.extents store.old)
         (λ lists. IsBehind (Counts (fulls lists) as_of.0) pfs.0 directory key name.now hidden)) }
-    ensures keeps { Same T.elements T.mark T.extents T.room T.free store.old store.new }
-    ensures borrowed { (T.name store.new ≡ T.name store.old)
-        × (T.frame store.new ≡ T.frame store.old) }
-    ensures cause { HasReadingCause (T.elements store.old) (T.extents store.old)
-        (T.faults store.old) (T.faults store.new) result }
+    ensures keeps { IsSame T.HasElements store.old store.new }
+    ensures borrowed { KeepsFrame T.Counted store.old store.new }
+    ensures cause { ReadsWithCause T.HasElements store.old store.new result }
 {
     let first = key / HASH_KEYS * HASH_KEYS;
     if first == key {

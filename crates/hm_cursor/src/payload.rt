@@ -2,7 +2,7 @@
 ghost use Rattle.std.specs.Prelude.{◌≡◌, ◌≤◌, IfSome, IfErr, IfOk, length};
 ghost use Rattle.hm_types.specs.Faults.{HasFaultCause};
 ghost use Rattle.hm_key.specs.Balance.{IsHeld};
-ghost use Rattle.hm_key.specs.Stores.{Same};
+ghost use Rattle.hm_key.specs.Members.{IsSame, KeepsFrame};
 ghost use Rattle.hm_cursor.specs.Read.{IsReadInto, IsTooLong};
 
 use hm_key::{Element, Extents, HasElements, HasRoom};
@@ -21,9 +21,8 @@ pub fn read_payload<T: Extents>(
     ensures fits { IfOk result (λ len. len ≤ length buffer.new) }
     ensures ok { IfSome (T.extents store.old) (λ xs.
         IfOk result (IsReadInto xs element.now buffer.new)) }
-    ensures keeps { Same T.elements T.mark T.extents T.room T.free store.old store.new }
-    ensures borrowed { (T.name store.new ≡ T.name store.old)
-        × (T.frame store.new ≡ T.frame store.old) }
+    ensures keeps { IsSame T.HasElements store.old store.new }
+    ensures borrowed { KeepsFrame T.Counted store.old store.new }
     ensures counted { HasFaultCause (T.faults store.old) (T.faults store.new) result }
     ensures damage { IfSome (T.extents store.old)
         (λ _. IfErr result (IsTooLong element.now (length buffer.old))) }

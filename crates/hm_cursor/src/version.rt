@@ -1,24 +1,12 @@
 // The element that counts about a subject as of an id: the newest of its versions that were made by
 // then, where it is seen.
 ghost use Rattle.std.specs.Prelude.{◌≡◌, ◌↔◌, ◌≤◌, IfSome, IfOk, IsTrue};
-ghost use Rattle.hm_types.specs.Faults.{HasStoreCause};
 ghost use Rattle.hm_key.specs.Counts.{subject_of};
 ghost use Rattle.hm_key.specs.Element.{IsElement};
 ghost use Rattle.hm_key.specs.Key.{key_of};
-ghost use Rattle.hm_key.specs.Stores.{Same};
-ghost use Rattle.hm_cursor.specs.Version.{
-  AreOfOneKind,
-  IsFirst,
-  IsFoundAbout,
-  IsFoundIn,
-  IsLast,
-  IsMadeUpTo,
-  IsNewestMade,
-  IsNewestMadeOf,
-  IsOldestOf,
-  IsVersion,
-  numbered,
-};
+ghost use Rattle.hm_key.specs.Members.{HasElementsCause, IsSame, KeepsFrame};
+ghost use Rattle.hm_cursor.specs.Version.{AreOfOneKind, IsFirst, IsFoundAbout, IsFoundIn, IsLast, IsMadeUpTo};
+ghost use Rattle.hm_cursor.specs.Version.{IsNewestMade, IsNewestMadeOf, IsOldestOf, IsVersion, numbered};
 
 use crate::cursor::is_seen;
 use hm_key::{Base, Element, ElementStore};
@@ -38,11 +26,9 @@ pub fn version_at<T: ElementStore>(
         IfOk result (IsVersion es (subject_of (key_of at.now)) as_of.0)) }
     ensures found { IfOk result (λ found.
         IfSome found (IsFoundAbout (subject_of (key_of at.now)) as_of.0)) }
-    ensures keeps { Same T.elements T.mark T.extents T.room T.free store.old store.new }
-    ensures borrowed { (T.name store.new ≡ T.name store.old)
-        × (T.frame store.new ≡ T.frame store.old) }
-    ensures cause { HasStoreCause (T.elements store.old)
-        (T.faults store.old) (T.faults store.new) result }
+    ensures keeps { IsSame T.HasElements store.old store.new }
+    ensures borrowed { KeepsFrame T.Counted store.old store.new }
+    ensures cause { HasElementsCause T.HasElements store.old store.new result }
 {
     let Some(newest) = newest_made(store, at, as_of)? else {
         return Ok(None);
@@ -67,11 +53,9 @@ pub fn first_version<T: ElementStore>(
         IfOk result (IsFirst es (key_of at.now) last as_of.0)) }
     ensures found { IfOk result (λ found.
         IfSome found (IsFoundIn (key_of at.now) last as_of.0)) }
-    ensures keeps { Same T.elements T.mark T.extents T.room T.free store.old store.new }
-    ensures borrowed { (T.name store.new ≡ T.name store.old)
-        × (T.frame store.new ≡ T.frame store.old) }
-    ensures cause { HasStoreCause (T.elements store.old)
-        (T.faults store.old) (T.faults store.new) result }
+    ensures keeps { IsSame T.HasElements store.old store.new }
+    ensures borrowed { KeepsFrame T.Counted store.old store.new }
+    ensures cause { HasElementsCause T.HasElements store.old store.new result }
 {
     let mut key = at.key;
     while key <= last {
@@ -111,11 +95,9 @@ pub fn last_version<T: ElementStore>(
         IfOk result (IsLast es (numbered (key_of at.now) first) at.now.key as_of.0)) }
     ensures found { IfOk result (λ found.
         IfSome found (IsFoundIn (numbered (key_of at.now) first) at.now.key as_of.0)) }
-    ensures keeps { Same T.elements T.mark T.extents T.room T.free store.old store.new }
-    ensures borrowed { (T.name store.new ≡ T.name store.old)
-        × (T.frame store.new ≡ T.frame store.old) }
-    ensures cause { HasStoreCause (T.elements store.old)
-        (T.faults store.old) (T.faults store.new) result }
+    ensures keeps { IsSame T.HasElements store.old store.new }
+    ensures borrowed { KeepsFrame T.Counted store.old store.new }
+    ensures cause { HasElementsCause T.HasElements store.old store.new result }
 {
     let mut key = at.key;
     while first <= key {
@@ -153,11 +135,9 @@ fn seen_from<T: ElementStore>(
         IfOk result (IsVersion es (subject_of (key_of oldest.now.base)) as_of.0)) }
     ensures found { IfOk result (λ found.
         IfSome found (IsFoundAbout (subject_of (key_of oldest.now.base)) as_of.0)) }
-    ensures keeps { Same T.elements T.mark T.extents T.room T.free store.old store.new }
-    ensures borrowed { (T.name store.new ≡ T.name store.old)
-        × (T.frame store.new ≡ T.frame store.old) }
-    ensures cause { HasStoreCause (T.elements store.old)
-        (T.faults store.old) (T.faults store.new) result }
+    ensures keeps { IsSame T.HasElements store.old store.new }
+    ensures borrowed { KeepsFrame T.Counted store.old store.new }
+    ensures cause { HasElementsCause T.HasElements store.old store.new result }
 {
     if oldest.base.create > as_of.0 {
         return Ok(None);
@@ -178,11 +158,9 @@ fn seen_to<T: ElementStore>(
         IfOk result (IsVersion es (subject_of (key_of latest.now.base)) as_of.0)) }
     ensures found { IfOk result (λ found.
         IfSome found (IsFoundAbout (subject_of (key_of latest.now.base)) as_of.0)) }
-    ensures keeps { Same T.elements T.mark T.extents T.room T.free store.old store.new }
-    ensures borrowed { (T.name store.new ≡ T.name store.old)
-        × (T.frame store.new ≡ T.frame store.old) }
-    ensures cause { HasStoreCause (T.elements store.old)
-        (T.faults store.old) (T.faults store.new) result }
+    ensures keeps { IsSame T.HasElements store.old store.new }
+    ensures borrowed { KeepsFrame T.Counted store.old store.new }
+    ensures cause { HasElementsCause T.HasElements store.old store.new result }
 {
     if latest.base.create > as_of.0 {
         return version_at(store, &latest.base, as_of);
@@ -203,11 +181,9 @@ pub(crate) fn newest_made<T: ElementStore>(
         IfOk result (IsNewestMade es (subject_of (key_of at.now)) as_of.0)) }
     ensures found { IfOk result (λ found.
         IfSome found (IsMadeUpTo (subject_of (key_of at.now)) as_of.0)) }
-    ensures keeps { Same T.elements T.mark T.extents T.room T.free store.old store.new }
-    ensures borrowed { (T.name store.new ≡ T.name store.old)
-        × (T.frame store.new ≡ T.frame store.old) }
-    ensures cause { HasStoreCause (T.elements store.old)
-        (T.faults store.old) (T.faults store.new) result }
+    ensures keeps { IsSame T.HasElements store.old store.new }
+    ensures borrowed { KeepsFrame T.Counted store.old store.new }
+    ensures cause { HasElementsCause T.HasElements store.old store.new result }
 {
     let to = Base {
         create: as_of.0,

@@ -1,28 +1,13 @@
 // New versions, and old ones that are closed.
 ghost use Rattle.std.specs.Prelude.{◌≡◌, ◌<◌, None, Some, IfSome, IsNone, IsSome, IsSomeAnd, OnOk};
-ghost use Rattle.hm_types.specs.Faults.{HasStoreCause};
-ghost use Rattle.hm_types.specs.Space.{Spends, nothing};
-ghost use Rattle.hm_key.specs.Balance.{Balanced, content_of};
+ghost use Rattle.hm_types.specs.Space.{nothing};
 ghost use Rattle.hm_key.specs.Counts.{subject_of};
 ghost use Rattle.hm_key.specs.Elements.{element_at};
 ghost use Rattle.hm_key.specs.Key.{key_of};
-ghost use Rattle.hm_key.specs.Stores.{Keeps};
 ghost use Rattle.hm_key.specs.Versions.{Adds};
-ghost use Rattle.hm_cursor.specs.Write.{
-  AddsOfType,
-  ClosesAt,
-  ClosesIfOpen,
-  FollowWith,
-  HasRoomFor,
-  IsClosedIn,
-  IsFresh,
-  IsNew,
-  Rewrites,
-  StayPlaced,
-  Writes,
-  full_with,
-  taken,
-};
+ghost use Rattle.hm_key.specs.Members.{HasContentCause, InBalance, KeepsFrame, KeepsTold, SpendsAtMost};
+ghost use Rattle.hm_cursor.specs.Write.{AddsOfType, ClosesAt, ClosesIfOpen, FollowWith, HasRoomFor, IsClosedIn};
+ghost use Rattle.hm_cursor.specs.Write.{IsFresh, IsNew, Rewrites, StayPlaced, full_with, taken, WritesStore};
 
 use crate::version::newest_made;
 use hm_key::{Base, Element, ElementStore, Extents, HasElements, HasRoom};
@@ -39,21 +24,19 @@ pub fn add_version<T: ElementStore + Extents>(
     bytes: &[u8],
 ) -> Result<(), Fault>
     requires new { IsNew base.now zone bytes.now }
-    requires balanced { Balanced (T.elements store.old) (T.extents store.old) }
+    requires balanced { InBalance T.HasElements store.old }
     requires fresh { IsFresh (T.elements store.old) (T.extents store.old)
         (subject_of (key_of base.now)) base.now.create }
     requires room { HasRoomFor (T.room store.old) zone bytes.now }
-    ensures ok { OnOk result (Writes T.elements T.extents
+    ensures ok { OnOk result (WritesStore T.HasElements
         (Rewrites (subject_of (key_of base.now)) (Some bytes.now) base.now.create)
         store.old store.new) }
-    ensures kind { OnOk result (Writes T.elements T.extents (AddsOfType base.now.obj_type)
+    ensures kind { OnOk result (WritesStore T.HasElements (AddsOfType base.now.obj_type)
         store.old store.new) }
-    ensures keeps { Keeps T.elements T.extents store.old store.new result }
-    ensures space { Spends T.room T.free (taken zone bytes.now) store.old store.new }
-    ensures borrowed { (T.name store.new ≡ T.name store.old)
-        × (T.frame store.new ≡ T.frame store.old) }
-    ensures cause { HasStoreCause (content_of (T.elements store.old) (T.extents store.old))
-        (T.faults store.old) (T.faults store.new) result }
+    ensures keeps { KeepsTold T.HasElements store.old store.new result }
+    ensures space { SpendsAtMost T.HasElements (taken zone bytes.now) store.old store.new }
+    ensures borrowed { KeepsFrame T.Counted store.old store.new }
+    ensures cause { HasContentCause T.HasElements store.old store.new result }
 {
     insert_with_payload(store, base, zone, bytes)
 }
@@ -72,24 +55,22 @@ pub fn renew_version<T: ElementStore + Extents>(
     requires about { subject_of (key_of old.now) ≡ subject_of (key_of base.now) }
     requires there { IfSome (T.elements store.old) (λ es.
         IsSomeAnd (element_at (key_of old.now) es) (λ e. e.base.delete ≡ 0)) }
-    requires balanced { Balanced (T.elements store.old) (T.extents store.old) }
+    requires balanced { InBalance T.HasElements store.old }
     requires fresh { IsFresh (T.elements store.old) (T.extents store.old)
         (subject_of (key_of base.now)) base.now.create }
     requires room { HasRoomFor (T.room store.old) zone bytes.now }
-    ensures ok { OnOk result (Writes T.elements T.extents
+    ensures ok { OnOk result (WritesStore T.HasElements
         (Rewrites (subject_of (key_of base.now)) (Some bytes.now) base.now.create)
         store.old store.new) }
-    ensures follows { OnOk result (Writes T.elements T.extents
+    ensures follows { OnOk result (WritesStore T.HasElements
         (FollowWith (subject_of (key_of base.now)) bytes.now base.now.create)
         store.old store.new) }
     ensures closed { OnOk result (IsClosedIn (T.elements store.new) (key_of old.now)
         base.now.create) }
-    ensures keeps { Keeps T.elements T.extents store.old store.new result }
-    ensures space { Spends T.room T.free (taken zone bytes.now) store.old store.new }
-    ensures borrowed { (T.name store.new ≡ T.name store.old)
-        × (T.frame store.new ≡ T.frame store.old) }
-    ensures cause { HasStoreCause (content_of (T.elements store.old) (T.extents store.old))
-        (T.faults store.old) (T.faults store.new) result }
+    ensures keeps { KeepsTold T.HasElements store.old store.new result }
+    ensures space { SpendsAtMost T.HasElements (taken zone bytes.now) store.old store.new }
+    ensures borrowed { KeepsFrame T.Counted store.old store.new }
+    ensures cause { HasContentCause T.HasElements store.old store.new result }
 {
     close_older(store, old, Id(base.create))?;
     insert_with_payload(store, base, zone, bytes)
@@ -104,18 +85,16 @@ pub fn close_versions<T: ElementStore + Extents>(
     at: &Base,
     id: Id,
 ) -> Result<(), Fault>
-    requires balanced { Balanced (T.elements store.old) (T.extents store.old) }
+    requires balanced { InBalance T.HasElements store.old }
     requires fresh { IsFresh (T.elements store.old) (T.extents store.old)
         (subject_of (key_of at.now)) id.0 }
-    ensures ok { OnOk result (Writes T.elements T.extents
+    ensures ok { OnOk result (WritesStore T.HasElements
         (Rewrites (subject_of (key_of at.now)) None id.0) store.old store.new) }
     ensures placed { OnOk result (StayPlaced T.elements T.extents store.old store.new) }
-    ensures keeps { Keeps T.elements T.extents store.old store.new result }
-    ensures space { Spends T.room T.free nothing store.old store.new }
-    ensures borrowed { (T.name store.new ≡ T.name store.old)
-        × (T.frame store.new ≡ T.frame store.old) }
-    ensures cause { HasStoreCause (content_of (T.elements store.old) (T.extents store.old))
-        (T.faults store.old) (T.faults store.new) result }
+    ensures keeps { KeepsTold T.HasElements store.old store.new result }
+    ensures space { SpendsAtMost T.HasElements nothing store.old store.new }
+    ensures borrowed { KeepsFrame T.Counted store.old store.new }
+    ensures cause { HasContentCause T.HasElements store.old store.new result }
 {
     let Some(newest) = newest_made(store, at, id)? else {
         return Ok(());
@@ -136,18 +115,16 @@ pub fn insert_with_payload<T: ElementStore + Extents>(
     bytes: &[u8],
 ) -> Result<(), Fault>
     requires new { IsNew base.now zone bytes.now }
-    requires balanced { Balanced (T.elements store.old) (T.extents store.old) }
+    requires balanced { InBalance T.HasElements store.old }
     requires lacks { IfSome (T.elements store.old) (λ es.
         IsNone (element_at (key_of base.now) es)) }
     requires room { HasRoomFor (T.room store.old) zone bytes.now }
-    ensures ok { OnOk result (Writes T.elements T.extents (Adds (full_with base.now bytes.now))
+    ensures ok { OnOk result (WritesStore T.HasElements (Adds (full_with base.now bytes.now))
         store.old store.new) }
-    ensures keeps { Keeps T.elements T.extents store.old store.new result }
-    ensures space { Spends T.room T.free (taken zone bytes.now) store.old store.new }
-    ensures borrowed { (T.name store.new ≡ T.name store.old)
-        × (T.frame store.new ≡ T.frame store.old) }
-    ensures cause { HasStoreCause (content_of (T.elements store.old) (T.extents store.old))
-        (T.faults store.old) (T.faults store.new) result }
+    ensures keeps { KeepsTold T.HasElements store.old store.new result }
+    ensures space { SpendsAtMost T.HasElements (taken zone bytes.now) store.old store.new }
+    ensures borrowed { KeepsFrame T.Counted store.old store.new }
+    ensures cause { HasContentCause T.HasElements store.old store.new result }
 {
     let payload = store.place(zone, bytes)?;
     store.insert(&Element {
@@ -168,12 +145,10 @@ fn close_if_open<T: ElementStore + Extents>(
     requires later { version.now.base.create < id.0 }
     ensures ok { OnOk result (ClosesIfOpen T.elements T.extents version.now id.0
         store.old store.new) }
-    ensures keeps { Keeps T.elements T.extents store.old store.new result }
-    ensures space { Spends T.room T.free nothing store.old store.new }
-    ensures borrowed { (T.name store.new ≡ T.name store.old)
-        × (T.frame store.new ≡ T.frame store.old) }
-    ensures cause { HasStoreCause (content_of (T.elements store.old) (T.extents store.old))
-        (T.faults store.old) (T.faults store.new) result }
+    ensures keeps { KeepsTold T.HasElements store.old store.new result }
+    ensures space { SpendsAtMost T.HasElements nothing store.old store.new }
+    ensures borrowed { KeepsFrame T.Counted store.old store.new }
+    ensures cause { HasContentCause T.HasElements store.old store.new result }
 {
     if version.base.delete != 0 {
         return Ok(());
@@ -189,12 +164,10 @@ fn close_older<T: ElementStore + Extents>(store: &mut T, at: &Base, id: Id) -> R
     requires older { IfSome (T.elements store.old) (λ _. at.now.create < id.0) }
     ensures ok { OnOk result (ClosesAt T.elements T.extents (key_of at.now) id.0
         store.old store.new) }
-    ensures keeps { Keeps T.elements T.extents store.old store.new result }
-    ensures space { Spends T.room T.free nothing store.old store.new }
-    ensures borrowed { (T.name store.new ≡ T.name store.old)
-        × (T.frame store.new ≡ T.frame store.old) }
-    ensures cause { HasStoreCause (content_of (T.elements store.old) (T.extents store.old))
-        (T.faults store.old) (T.faults store.new) result }
+    ensures keeps { KeepsTold T.HasElements store.old store.new result }
+    ensures space { SpendsAtMost T.HasElements nothing store.old store.new }
+    ensures borrowed { KeepsFrame T.Counted store.old store.new }
+    ensures cause { HasContentCause T.HasElements store.old store.new result }
 {
     if at.create >= id.0 {
         return Ok(());

@@ -11,3 +11,4 @@ pub mod WalkLemmas
 pub mod WalkOutcomeLemmas
 pub mod WalkLoopLemmas
 pub mod WalkToldLemmas
+pub mod WalkPartsLemmas

@@ -1,13 +1,11 @@
 // New names.
 ghost use Rattle.std.specs.Prelude.{◌≡◌, ◌+◌, ◌≤◌, OnOk, length};
-ghost use Rattle.hm_types.specs.Faults.{HasStoreCause};
-ghost use Rattle.hm_types.specs.Space.{Spends, nothing};
-ghost use Rattle.hm_key.specs.Balance.{Balanced, content_of};
+ghost use Rattle.hm_types.specs.Space.{nothing};
 ghost use Rattle.hm_key.specs.Counts.{subject_of};
 ghost use Rattle.hm_key.specs.Key.{key_of};
-ghost use Rattle.hm_key.specs.Stores.{Keeps};
+ghost use Rattle.hm_key.specs.Members.{HasContentCause, InBalance, KeepsFrame, KeepsTold, SpendsAtMost};
 ghost use Rattle.hm_records.specs.Entry.{IsEntry, entry_bytes};
-ghost use Rattle.hm_cursor.specs.Write.{HasRoomFor, IsFresh, Writes, taken};
+ghost use Rattle.hm_cursor.specs.Write.{HasRoomFor, IsFresh, WritesStore, taken};
 ghost use Rattle.hm_dirs.specs.Entries.{Clears};
 ghost use Rattle.hm_dirs.specs.Names.{AddsName, AreOlderIn};
 
@@ -34,19 +32,17 @@ pub fn add_name<T: ElementStore + Extents>(
 ) -> Result<(), Fault>
     requires id { 1 ≤ id.0 }
     requires ranges { IsEntry entry.now × (1 ≤ kind) × (kind ≤ 4) }
-    requires balanced { Balanced (T.elements store.old) (T.extents store.old) }
+    requires balanced { InBalance T.HasElements store.old }
     requires older { AreOlderIn (T.elements store.old) (T.extents store.old)
         pfs.0 directory id.0 }
     requires room { HasRoomFor (T.room store.old) META_ZONE (entry_bytes entry.now) }
-    ensures ok { OnOk result (Writes T.elements T.extents
+    ensures ok { OnOk result (WritesStore T.HasElements
         (AddsName pfs.0 directory spot id.0 entry.now kind) store.old store.new) }
-    ensures keeps { Keeps T.elements T.extents store.old store.new result }
-    ensures space { Spends T.room T.free (taken META_ZONE (entry_bytes entry.now))
+    ensures keeps { KeepsTold T.HasElements store.old store.new result }
+    ensures space { SpendsAtMost T.HasElements (taken META_ZONE (entry_bytes entry.now))
         store.old store.new }
-    ensures borrowed { (T.name store.new ≡ T.name store.old)
-        × (T.frame store.new ≡ T.frame store.old) }
-    ensures cause { HasStoreCause (content_of (T.elements store.old) (T.extents store.old))
-        (T.faults store.old) (T.faults store.new) result }
+    ensures borrowed { KeepsFrame T.Counted store.old store.new }
+    ensures cause { HasContentCause T.HasElements store.old store.new result }
 {
     let bytes = encode_entry(alloc, entry)?;
     let at = entry_base(pfs, directory, spot.key);
@@ -68,17 +64,15 @@ fn clear<T: ElementStore + Extents>(
     hidden: bool,
     id: Id,
 ) -> Result<(), Fault>
-    requires balanced { Balanced (T.elements store.old) (T.extents store.old) }
+    requires balanced { InBalance T.HasElements store.old }
     requires fresh { IsFresh (T.elements store.old) (T.extents store.old)
         (subject_of (key_of at.now)) id.0 }
-    ensures ok { OnOk result (Writes T.elements T.extents
+    ensures ok { OnOk result (WritesStore T.HasElements
         (Clears hidden (subject_of (key_of at.now)) id.0) store.old store.new) }
-    ensures keeps { Keeps T.elements T.extents store.old store.new result }
-    ensures space { Spends T.room T.free nothing store.old store.new }
-    ensures borrowed { (T.name store.new ≡ T.name store.old)
-        × (T.frame store.new ≡ T.frame store.old) }
-    ensures cause { HasStoreCause (content_of (T.elements store.old) (T.extents store.old))
-        (T.faults store.old) (T.faults store.new) result }
+    ensures keeps { KeepsTold T.HasElements store.old store.new result }
+    ensures space { SpendsAtMost T.HasElements nothing store.old store.new }
+    ensures borrowed { KeepsFrame T.Counted store.old store.new }
+    ensures cause { HasContentCause T.HasElements store.old store.new result }
 {
     if hidden {
         close_versions(store, at, id)

@@ -2,7 +2,7 @@
 ghost use Rattle.std.specs.Prelude.{◌≡◌, IfErr, IfOk, IfSome};
 ghost use Rattle.hm_types.specs.Faults.{HasFaultCause};
 ghost use Rattle.hm_key.specs.Balance.{IsHeld, payload_of};
-ghost use Rattle.hm_key.specs.Stores.{Same};
+ghost use Rattle.hm_key.specs.Members.{IsSame, KeepsFrame};
 ghost use Rattle.hm_cursor.specs.Names.{IsNoEntry};
 ghost use Rattle.hm_dirs.specs.Entries.{IsNamed};
 
@@ -25,9 +25,8 @@ pub(crate) fn read_name<T: Extents>(
     requires held { IfSome (T.extents store.old) (λ xs. IsHeld xs entry.now) }
     ensures ok { IfSome (T.extents store.old) (λ xs.
         IfOk result (IsNamed (payload_of xs entry.now))) }
-    ensures keeps { Same T.elements T.mark T.extents T.room T.free store.old store.new }
-    ensures borrowed { (T.name store.new ≡ T.name store.old)
-        × (T.frame store.new ≡ T.frame store.old) }
+    ensures keeps { IsSame T.HasElements store.old store.new }
+    ensures borrowed { KeepsFrame T.Counted store.old store.new }
     ensures counted { HasFaultCause (T.faults store.old) (T.faults store.new) result }
     ensures damage { IfSome (T.extents store.old) (λ xs. IfErr result (IsNoEntry xs entry.now)) }
 {

@@ -1,9 +1,8 @@
 // Where a name leads.
 ghost use Rattle.std.specs.Prelude.{◌≡◌, IfOk};
-ghost use Rattle.hm_key.specs.Balance.{Balanced};
-ghost use Rattle.hm_key.specs.Stores.{Same};
-ghost use Rattle.hm_cursor.specs.Told.{HasReadingCause};
+ghost use Rattle.hm_cursor.specs.Told.{ReadsWithCause};
 ghost use Rattle.hm_dirs.specs.Names.{IsLookedUp, OnNamed};
+ghost use Rattle.hm_key.specs.Members.{InBalance, IsSame, KeepsFrame};
 
 use crate::hash::{NameHash, keys_of};
 use hm_cursor::find_name;
@@ -25,15 +24,13 @@ pub fn look_up<T: ElementStore + Extents, H: NameHash>(
     name: &[u8],
     as_of: Id,
 ) -> Result<Option<(u64, Obj)>, Fault>
-    requires balanced { Balanced (T.elements store.old) (T.extents store.old) }
+    requires balanced { InBalance T.HasElements store.old }
     ensures ok { IfOk result (λ found. OnNamed (H.hash_of hash.now)
         (T.elements store.old) (T.extents store.old)
         (IsLookedUp as_of.0 pfs.0 directory name.now found)) }
-    ensures keeps { Same T.elements T.mark T.extents T.room T.free store.old store.new }
-    ensures borrowed { (T.name store.new ≡ T.name store.old)
-        × (T.frame store.new ≡ T.frame store.old) }
-    ensures cause { HasReadingCause (T.elements store.old) (T.extents store.old)
-        (T.faults store.old) (T.faults store.new) result }
+    ensures keeps { IsSame T.HasElements store.old store.new }
+    ensures borrowed { KeepsFrame T.Counted store.old store.new }
+    ensures cause { ReadsWithCause T.HasElements store.old store.new result }
 {
     let (first, last) = keys_of(hash.hash(name));
     find_name(store, pfs, directory, first, last, name, as_of)

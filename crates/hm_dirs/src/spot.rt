@@ -2,22 +2,13 @@
 // hash.
 ghost use Rattle.std.specs.Prelude.{◌≡◌, ℕ, ◌+◌, ◌^◌, ◌<◌, ◌≤◌, ◌↔◌, List, IfOk, IfSome, IsTrue};
 ghost use Rattle.std.specs.List.{Contains};
-ghost use Rattle.hm_types.specs.Faults.{HasStoreCause};
 ghost use Rattle.hm_types.specs.Tree.{FileTree};
-ghost use Rattle.hm_key.specs.Balance.{Balanced, content_of};
 ghost use Rattle.hm_key.specs.Counts.{Counts};
-ghost use Rattle.hm_key.specs.Stores.{Same};
+ghost use Rattle.hm_key.specs.Members.{HasContentCause, InBalance, IsSame, KeepsFrame};
 ghost use Rattle.hm_records.specs.View.{IsViewOf};
-ghost use Rattle.hm_cursor.specs.Told.{HasReadingCause, OnBalanced, fulls};
-ghost use Rattle.hm_dirs.specs.Entries.{
-  IsFewEntries,
-  IsFewNames,
-  IsFreeKey,
-  IsHiddenKey,
-  IsLeastKey,
-  IsNextName,
-  IsNoted,
-};
+ghost use Rattle.hm_cursor.specs.Told.{OnBalanced, ReadsWithCause, fulls};
+ghost use Rattle.hm_dirs.specs.Entries.{IsFewEntries, IsFewNames, IsFreeKey, IsHiddenKey, IsLeastKey, IsNextName};
+ghost use Rattle.hm_dirs.specs.Entries.{IsNoted};
 ghost use Rattle.hm_dirs.specs.Names.{IsSpotFor, OnNamed};
 
 use crate::entry::read_name;
@@ -56,17 +47,15 @@ pub fn find_spot<T: ElementStore + Extents, H: NameHash>(
     name: &[u8],
     as_of: Id,
 ) -> Result<Option<Spot>, Fault>
-    requires balanced { Balanced (T.elements store.old) (T.extents store.old) }
+    requires balanced { InBalance T.HasElements store.old }
     ensures ok { IfOk result (λ found. OnNamed (H.hash_of hash.now)
         (T.elements store.old) (T.extents store.old) (λ lists. (tree : FileTree) →
         IsViewOf (fulls lists) pfs.0 as_of.0 tree →
         IsSpotFor (H.hash_of hash.now) (Counts (fulls lists) as_of.0) tree pfs.0 directory
         name.now found)) }
-    ensures keeps { Same T.elements T.mark T.extents T.room T.free store.old store.new }
-    ensures borrowed { (T.name store.new ≡ T.name store.old)
-        × (T.frame store.new ≡ T.frame store.old) }
-    ensures cause { HasReadingCause (T.elements store.old) (T.extents store.old)
-        (T.faults store.old) (T.faults store.new) result }
+    ensures keeps { IsSame T.HasElements store.old store.new }
+    ensures borrowed { KeepsFrame T.Counted store.old store.new }
+    ensures cause { ReadsWithCause T.HasElements store.old store.new result }
 {
     let (first, _) = keys_of(hash.hash(name));
     if !has_few_names(alloc, store, pfs, directory, first, as_of)? {
@@ -91,15 +80,13 @@ fn has_few_names<T: ElementStore + Extents>(
     as_of: Id,
 ) -> Result<bool, Fault>
     requires first { IsLeastKey first }
-    requires balanced { Balanced (T.elements store.old) (T.extents store.old) }
+    requires balanced { InBalance T.HasElements store.old }
     ensures ok { IfOk result (λ few. (hash : List ℕ → ℕ) → OnNamed hash
         (T.elements store.old) (T.extents store.old)
         (IsFewNames as_of.0 pfs.0 directory first few)) }
-    ensures keeps { Same T.elements T.mark T.extents T.room T.free store.old store.new }
-    ensures borrowed { (T.name store.new ≡ T.name store.old)
-        × (T.frame store.new ≡ T.frame store.old) }
-    ensures cause { HasReadingCause (T.elements store.old) (T.extents store.old)
-        (T.faults store.old) (T.faults store.new) result }
+    ensures keeps { IsSame T.HasElements store.old store.new }
+    ensures borrowed { KeepsFrame T.Counted store.old store.new }
+    ensures cause { ReadsWithCause T.HasElements store.old store.new result }
 {
     if has_few_entries(store, pfs, directory, first, as_of)? {
         return Ok(true);
@@ -116,14 +103,12 @@ fn has_few_entries<T: ElementStore + Extents>(
     as_of: Id,
 ) -> Result<bool, Fault>
     requires first { first < 2 ^ 63 }
-    requires balanced { Balanced (T.elements store.old) (T.extents store.old) }
+    requires balanced { InBalance T.HasElements store.old }
     ensures ok { IfOk result (λ few. OnBalanced (T.elements store.old) (T.extents store.old)
         (IsFewEntries as_of.0 pfs.0 directory first few)) }
-    ensures keeps { Same T.elements T.mark T.extents T.room T.free store.old store.new }
-    ensures borrowed { (T.name store.new ≡ T.name store.old)
-        × (T.frame store.new ≡ T.frame store.old) }
-    ensures cause { HasStoreCause (content_of (T.elements store.old) (T.extents store.old))
-        (T.faults store.old) (T.faults store.new) result }
+    ensures keeps { IsSame T.HasElements store.old store.new }
+    ensures borrowed { KeepsFrame T.Counted store.old store.new }
+    ensures cause { HasContentCause T.HasElements store.old store.new result }
 {
     let last = first + 65_535;
     let mut key = first;
@@ -152,15 +137,13 @@ fn has_few_leading<T: ElementStore + Extents>(
     as_of: Id,
 ) -> Result<bool, Fault>
     requires first { IsLeastKey first }
-    requires balanced { Balanced (T.elements store.old) (T.extents store.old) }
+    requires balanced { InBalance T.HasElements store.old }
     ensures ok { IfOk result (λ few. (hash : List ℕ → ℕ) → OnNamed hash
         (T.elements store.old) (T.extents store.old)
         (IsFewNames as_of.0 pfs.0 directory first few)) }
-    ensures keeps { Same T.elements T.mark T.extents T.room T.free store.old store.new }
-    ensures borrowed { (T.name store.new ≡ T.name store.old)
-        × (T.frame store.new ≡ T.frame store.old) }
-    ensures cause { HasReadingCause (T.elements store.old) (T.extents store.old)
-        (T.faults store.old) (T.faults store.new) result }
+    ensures keeps { IsSame T.HasElements store.old store.new }
+    ensures borrowed { KeepsFrame T.Counted store.old store.new }
+    ensures cause { ReadsWithCause T.HasElements store.old store.new result }
 {
     let last = first + 65_535;
     let mut names = Vec::new(alloc);
@@ -188,14 +171,12 @@ fn free_key<T: ElementStore + Extents>(
     as_of: Id,
 ) -> Result<Option<u64>, Fault>
     requires first { first < 2 ^ 63 }
-    requires balanced { Balanced (T.elements store.old) (T.extents store.old) }
+    requires balanced { InBalance T.HasElements store.old }
     ensures ok { IfOk result (λ found. OnBalanced (T.elements store.old) (T.extents store.old)
         (IsFreeKey as_of.0 pfs.0 directory first found)) }
-    ensures keeps { Same T.elements T.mark T.extents T.room T.free store.old store.new }
-    ensures borrowed { (T.name store.new ≡ T.name store.old)
-        × (T.frame store.new ≡ T.frame store.old) }
-    ensures cause { HasStoreCause (content_of (T.elements store.old) (T.extents store.old))
-        (T.faults store.old) (T.faults store.new) result }
+    ensures keeps { IsSame T.HasElements store.old store.new }
+    ensures borrowed { KeepsFrame T.Counted store.old store.new }
+    ensures cause { HasContentCause T.HasElements store.old store.new result }
 {
     let end = first + NUMBERS;
     let mut key = first;
@@ -218,15 +199,13 @@ fn hidden_key<T: ElementStore + Extents>(
     as_of: Id,
 ) -> Result<Option<u64>, Fault>
     requires first { IsLeastKey first }
-    requires balanced { Balanced (T.elements store.old) (T.extents store.old) }
+    requires balanced { InBalance T.HasElements store.old }
     ensures ok { IfOk result (λ found. (hash : List ℕ → ℕ) → OnNamed hash
         (T.elements store.old) (T.extents store.old)
         (IsHiddenKey as_of.0 pfs.0 directory first found)) }
-    ensures keeps { Same T.elements T.mark T.extents T.room T.free store.old store.new }
-    ensures borrowed { (T.name store.new ≡ T.name store.old)
-        × (T.frame store.new ≡ T.frame store.old) }
-    ensures cause { HasReadingCause (T.elements store.old) (T.extents store.old)
-        (T.faults store.old) (T.faults store.new) result }
+    ensures keeps { IsSame T.HasElements store.old store.new }
+    ensures borrowed { KeepsFrame T.Counted store.old store.new }
+    ensures cause { ReadsWithCause T.HasElements store.old store.new result }
 {
     let end = first + NUMBERS;
     let mut names = Vec::new(alloc);
@@ -254,16 +233,14 @@ fn next_name<T: ElementStore + Extents>(
     last: u64,
     as_of: Id,
 ) -> Result<Option<(u64, Name)>, Fault>
-    requires balanced { Balanced (T.elements store.old) (T.extents store.old) }
+    requires balanced { InBalance T.HasElements store.old }
     ensures between { IfOk result (λ found. IfSome found (λ pair.
         (key ≤ pair.0) × (pair.0 ≤ last))) }
     ensures ok { IfOk result (λ found. OnBalanced (T.elements store.old) (T.extents store.old)
         (IsNextName as_of.0 pfs.0 directory key last found)) }
-    ensures keeps { Same T.elements T.mark T.extents T.room T.free store.old store.new }
-    ensures borrowed { (T.name store.new ≡ T.name store.old)
-        × (T.frame store.new ≡ T.frame store.old) }
-    ensures cause { HasReadingCause (T.elements store.old) (T.extents store.old)
-        (T.faults store.old) (T.faults store.new) result }
+    ensures keeps { IsSame T.HasElements store.old store.new }
+    ensures borrowed { KeepsFrame T.Counted store.old store.new }
+    ensures cause { ReadsWithCause T.HasElements store.old store.new result }
 {
     let at = entry_base(pfs, directory, key);
     let Some(entry) = first_version(store, &at, last, as_of)? else {

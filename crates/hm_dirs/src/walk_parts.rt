@@ -1,14 +1,12 @@
 // From an object to one that it leads to: over a link, to a name, or as of another id.
 ghost use Rattle.std.specs.Prelude.{◌≡◌, IfOk, None, Some};
 ghost use Rattle.hm_types.specs.declared.object.Object.{Object};
-ghost use Rattle.hm_key.specs.Balance.{Balanced};
-ghost use Rattle.hm_key.specs.Stores.{Same};
+ghost use Rattle.hm_key.specs.Members.{InBalance, IsSame, KeepsFrame};
 ghost use Rattle.hm_model.specs.View.{object_at};
-ghost use Rattle.hm_model.specs.Walk.{Follows as follows};
-ghost use Rattle.hm_model.specs.Walk.{by_id as seen, by_name as named, find_name, find_object};
+ghost use Rattle.hm_model.specs.Walk.{Follows as follows, by_id as seen, by_name as named, find_name, find_object};
 ghost use Rattle.hm_model.specs.Walk.{from_found as gone, over_link as led};
 ghost use Rattle.hm_records.specs.KeysFit.{KeysFit};
-ghost use Rattle.hm_cursor.specs.Told.{HasReadingCause};
+ghost use Rattle.hm_cursor.specs.Told.{ReadsWithCause};
 ghost use Rattle.hm_dirs.specs.Walk.{WalkGoesOn, IsDrawn, OnShown, StaysNow, mode_of, place_of};
 
 use crate::hash::NameHash;
@@ -30,17 +28,15 @@ fn over_link<T: ElementStore + Extents>(
     pfs: Pfs,
     stand: Stand,
 ) -> Result<Result<Stand, Lost>, Fault>
-    requires balanced { Balanced (T.elements store.old) (T.extents store.old) }
+    requires balanced { InBalance T.HasElements store.old }
     ensures ok { IfOk result (λ walked.
         OnShown (T.elements store.old) (T.extents store.old) course (λ scene.
         WalkGoesOn scene (mode_of follow)
         (led scene.volume scene.view (mode_of follow) pfs.0) stand walked)) }
     ensures now { stand.at.when ≡ None → IfOk result StaysNow }
-    ensures keeps { Same T.elements T.mark T.extents T.room T.free store.old store.new }
-    ensures borrowed { (T.name store.new ≡ T.name store.old)
-        × (T.frame store.new ≡ T.frame store.old) }
-    ensures cause { HasReadingCause (T.elements store.old) (T.extents store.old)
-        (T.faults store.old) (T.faults store.new) result }
+    ensures keeps { IsSame T.HasElements store.old store.new }
+    ensures borrowed { KeepsFrame T.Counted store.old store.new }
+    ensures cause { ReadsWithCause T.HasElements store.old store.new result }
 {
     match follow {
         Follow::Stays => Ok(Ok(stand)),
@@ -57,18 +53,16 @@ fn from_found<T: ElementStore + Extents>(
     follow: Follow,
     stand: Stand,
 ) -> Result<Result<Stand, Lost>, Fault>
-    requires balanced { Balanced (T.elements store.old) (T.extents store.old) }
+    requires balanced { InBalance T.HasElements store.old }
     ensures ok { IfOk result (λ walked.
         OnShown (T.elements store.old) (T.extents store.old) course (λ scene.
         (object : Object) → object_at scene.view (place_of stand.at) ≡ Some object
         → WalkGoesOn scene (mode_of follow)
         (gone scene.volume scene.view (mode_of follow) object) stand walked)) }
     ensures now { stand.at.when ≡ None → IfOk result StaysNow }
-    ensures keeps { Same T.elements T.mark T.extents T.room T.free store.old store.new }
-    ensures borrowed { (T.name store.new ≡ T.name store.old)
-        × (T.frame store.new ≡ T.frame store.old) }
-    ensures cause { HasReadingCause (T.elements store.old) (T.extents store.old)
-        (T.faults store.old) (T.faults store.new) result }
+    ensures keeps { IsSame T.HasElements store.old store.new }
+    ensures borrowed { KeepsFrame T.Counted store.old store.new }
+    ensures cause { ReadsWithCause T.HasElements store.old store.new result }
 {
     match stand.link() {
         Some(pfs) => over_link(alloc, store, course, follow, pfs, stand),
@@ -85,17 +79,15 @@ fn to_object<T: ElementStore + Extents>(
     object: Obj,
     stand: Stand,
 ) -> Result<Result<Stand, Lost>, Fault>
-    requires balanced { Balanced (T.elements store.old) (T.extents store.old) }
+    requires balanced { InBalance T.HasElements store.old }
     ensures ok { IfOk result (λ walked.
         OnShown (T.elements store.old) (T.extents store.old) course (λ scene.
         WalkGoesOn scene (mode_of follow) (λ here. find_object scene.volume scene.view
         (mode_of follow) (record here { object = object })) stand walked)) }
     ensures now { stand.at.when ≡ None → IfOk result StaysNow }
-    ensures keeps { Same T.elements T.mark T.extents T.room T.free store.old store.new }
-    ensures borrowed { (T.name store.new ≡ T.name store.old)
-        × (T.frame store.new ≡ T.frame store.old) }
-    ensures cause { HasReadingCause (T.elements store.old) (T.extents store.old)
-        (T.faults store.old) (T.faults store.new) result }
+    ensures keeps { IsSame T.HasElements store.old store.new }
+    ensures borrowed { KeepsFrame T.Counted store.old store.new }
+    ensures cause { ReadsWithCause T.HasElements store.old store.new result }
 {
     let at = Position { object, ..stand.at };
     match look_at(store, at, stand.as_of, course.passes(stand.passed, at))? {
@@ -114,17 +106,15 @@ fn to_name<T: ElementStore + Extents, H: NameHash>(
     name: &[u8],
     stand: Stand,
 ) -> Result<Result<Stand, Lost>, Fault>
-    requires balanced { Balanced (T.elements store.old) (T.extents store.old) }
+    requires balanced { InBalance T.HasElements store.old }
     ensures ok { IfOk result (λ walked.
         OnShown (T.elements store.old) (T.extents store.old) course (λ scene.
         KeysFit (H.hash_of hash.now) scene.elements → WalkGoesOn scene (mode_of follow)
         (find_name scene.volume scene.view (mode_of follow) name.now) stand walked)) }
     ensures now { stand.at.when ≡ None → IfOk result StaysNow }
-    ensures keeps { Same T.elements T.mark T.extents T.room T.free store.old store.new }
-    ensures borrowed { (T.name store.new ≡ T.name store.old)
-        × (T.frame store.new ≡ T.frame store.old) }
-    ensures cause { HasReadingCause (T.elements store.old) (T.extents store.old)
-        (T.faults store.old) (T.faults store.new) result }
+    ensures keeps { IsSame T.HasElements store.old store.new }
+    ensures borrowed { KeepsFrame T.Counted store.old store.new }
+    ensures cause { ReadsWithCause T.HasElements store.old store.new result }
 {
     match look_up(
         store,
@@ -149,17 +139,15 @@ pub(crate) fn by_name<T: ElementStore + Extents, H: NameHash>(
     part: &Part,
     stand: Stand,
 ) -> Result<Result<Stand, Lost>, Fault>
-    requires balanced { Balanced (T.elements store.old) (T.extents store.old) }
+    requires balanced { InBalance T.HasElements store.old }
     ensures ok { IfOk result (λ walked.
         OnShown (T.elements store.old) (T.extents store.old) course (λ scene.
         KeysFit (H.hash_of hash.now) scene.elements → WalkGoesOn scene (mode_of follow)
         (named scene.volume scene.view (mode_of follow) part.now.name) stand walked)) }
     ensures now { stand.at.when ≡ None → IfOk result StaysNow }
-    ensures keeps { Same T.elements T.mark T.extents T.room T.free store.old store.new }
-    ensures borrowed { (T.name store.new ≡ T.name store.old)
-        × (T.frame store.new ≡ T.frame store.old) }
-    ensures cause { HasReadingCause (T.elements store.old) (T.extents store.old)
-        (T.faults store.old) (T.faults store.new) result }
+    ensures keeps { IsSame T.HasElements store.old store.new }
+    ensures borrowed { KeepsFrame T.Counted store.old store.new }
+    ensures cause { ReadsWithCause T.HasElements store.old store.new result }
 {
     let Some(name) = &part.name else {
         return Ok(Ok(stand));
@@ -178,17 +166,15 @@ pub(crate) fn by_id<T: ElementStore + Extents>(
     as_of: Option<Id>,
     stand: Stand,
 ) -> Result<Result<Stand, Lost>, Fault>
-    requires balanced { Balanced (T.elements store.old) (T.extents store.old) }
+    requires balanced { InBalance T.HasElements store.old }
     ensures ok { IfOk result (λ walked. (course : Course) →
         OnShown (T.elements store.old) (T.extents store.old) course (λ scene.
         IsDrawn scene.course.last as_of
         → WalkGoesOn scene follows (seen scene.volume scene.view as_of) stand walked)) }
     ensures now { as_of ≡ None → stand.at.when ≡ None → IfOk result StaysNow }
-    ensures keeps { Same T.elements T.mark T.extents T.room T.free store.old store.new }
-    ensures borrowed { (T.name store.new ≡ T.name store.old)
-        × (T.frame store.new ≡ T.frame store.old) }
-    ensures cause { HasReadingCause (T.elements store.old) (T.extents store.old)
-        (T.faults store.old) (T.faults store.new) result }
+    ensures keeps { IsSame T.HasElements store.old store.new }
+    ensures borrowed { KeepsFrame T.Counted store.old store.new }
+    ensures cause { ReadsWithCause T.HasElements store.old store.new result }
 {
     let Some(id) = as_of else {
         return Ok(Ok(stand));

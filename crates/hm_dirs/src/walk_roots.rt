@@ -1,13 +1,12 @@
 // The roots of pseudo file systems: where walks begin, and where links lead.
 ghost use Rattle.std.specs.Prelude.{◌≡◌, [], ◌∷◌, IfOk, None};
-ghost use Rattle.hm_key.specs.Balance.{Balanced};
-ghost use Rattle.hm_key.specs.Stores.{Same};
 ghost use Rattle.hm_model.specs.Walk.{Passed, enter as entered, start as begin, take_pfs as taken};
 ghost use Rattle.hm_model.specs.Walk.{Follows as follows, TakesPfs as takes_pfs};
 ghost use Rattle.hm_records.specs.View.{IsViewOf};
-ghost use Rattle.hm_cursor.specs.Told.{HasReadingCause};
-ghost use Rattle.hm_dirs.specs.Walk.{ComesOut, EndsAt, IsDrawn, IsSeenAs, IsShownAs, IsTold};
-ghost use Rattle.hm_dirs.specs.Walk.{OnShown, StaysNow, found_at, place_of, root_at, shown_by, when_of};
+ghost use Rattle.hm_cursor.specs.Told.{ReadsWithCause};
+ghost use Rattle.hm_dirs.specs.Walk.{ComesOut, EndsAt, IsDrawn, IsSeenAs, IsShownAs, IsTold, OnShown, StaysNow};
+ghost use Rattle.hm_dirs.specs.Walk.{found_at, place_of, root_at, shown_by, when_of};
+ghost use Rattle.hm_key.specs.Members.{InBalance, IsSame, KeepsFrame};
 
 use crate::position::{Course, Lost, Position, Stand};
 use hm_cursor::{find_inode, find_record};
@@ -25,16 +24,14 @@ pub(crate) fn start<T: ElementStore + Extents>(
     store: &mut T,
     course: Course,
 ) -> Result<Stand, Fault>
-    requires balanced { Balanced (T.elements store.old) (T.extents store.old) }
+    requires balanced { InBalance T.HasElements store.old }
     ensures ok { IfOk result (λ stand.
         OnShown (T.elements store.old) (T.extents store.old) course (λ scene.
         EndsAt scene follows begin ((0, 1) ∷ []) stand)) }
     ensures now { IfOk result (λ stand. stand.at.when ≡ None) }
-    ensures keeps { Same T.elements T.mark T.extents T.room T.free store.old store.new }
-    ensures borrowed { (T.name store.new ≡ T.name store.old)
-        × (T.frame store.new ≡ T.frame store.old) }
-    ensures cause { HasReadingCause (T.elements store.old) (T.extents store.old)
-        (T.faults store.old) (T.faults store.new) result }
+    ensures keeps { IsSame T.HasElements store.old store.new }
+    ensures borrowed { KeepsFrame T.Counted store.old store.new }
+    ensures cause { ReadsWithCause T.HasElements store.old store.new result }
 {
     let first = find_record(alloc, store, Pfs(0))?;
     let as_of = first_as_of(&first, course.last);
@@ -58,18 +55,16 @@ pub(crate) fn enter<T: ElementStore + Extents>(
     when: Option<Id>,
     passed: bool,
 ) -> Result<Result<Stand, Lost>, Fault>
-    requires balanced { Balanced (T.elements store.old) (T.extents store.old) }
+    requires balanced { InBalance T.HasElements store.old }
     ensures ok { IfOk result (λ walked.
         OnShown (T.elements store.old) (T.extents store.old) course (λ scene.
         (list : Passed) → IsTold scene list passed → IsDrawn scene.course.last when
         → ComesOut scene follows
         (entered scene.volume scene.view pfs.0 (when_of when) list) walked)) }
     ensures now { when ≡ None → IfOk result StaysNow }
-    ensures keeps { Same T.elements T.mark T.extents T.room T.free store.old store.new }
-    ensures borrowed { (T.name store.new ≡ T.name store.old)
-        × (T.frame store.new ≡ T.frame store.old) }
-    ensures cause { HasReadingCause (T.elements store.old) (T.extents store.old)
-        (T.faults store.old) (T.faults store.new) result }
+    ensures keeps { IsSame T.HasElements store.old store.new }
+    ensures borrowed { KeepsFrame T.Counted store.old store.new }
+    ensures cause { ReadsWithCause T.HasElements store.old store.new result }
 {
     let Some(record) = find_record(alloc, store, pfs)? else {
         return Ok(Err(Lost::NotFound));
@@ -90,17 +85,15 @@ pub(crate) fn take_pfs<T: ElementStore + Extents>(
     when: Option<Id>,
     passed: bool,
 ) -> Result<Result<Stand, Lost>, Fault>
-    requires balanced { Balanced (T.elements store.old) (T.extents store.old) }
+    requires balanced { InBalance T.HasElements store.old }
     ensures ok { IfOk result (λ walked.
         OnShown (T.elements store.old) (T.extents store.old) course (λ scene.
         (list : Passed) → IsTold scene list passed → ComesOut scene takes_pfs
         (taken scene.volume pfs.0 (when_of when) list) walked)) }
     ensures now { when ≡ None → IfOk result StaysNow }
-    ensures keeps { Same T.elements T.mark T.extents T.room T.free store.old store.new }
-    ensures borrowed { (T.name store.new ≡ T.name store.old)
-        × (T.frame store.new ≡ T.frame store.old) }
-    ensures cause { HasReadingCause (T.elements store.old) (T.extents store.old)
-        (T.faults store.old) (T.faults store.new) result }
+    ensures keeps { IsSame T.HasElements store.old store.new }
+    ensures borrowed { KeepsFrame T.Counted store.old store.new }
+    ensures cause { ReadsWithCause T.HasElements store.old store.new result }
 {
     let Some(record) = find_record(alloc, store, pfs)? else {
         return Ok(Err(Lost::NotFound));
@@ -120,18 +113,16 @@ pub(crate) fn look_at<T: ElementStore + Extents>(
     as_of: Id,
     passed: bool,
 ) -> Result<Result<Stand, Lost>, Fault>
-    requires balanced { Balanced (T.elements store.old) (T.extents store.old) }
+    requires balanced { InBalance T.HasElements store.old }
     ensures ok { IfOk result (λ walked. (course : Course) →
         OnShown (T.elements store.old) (T.extents store.old) course (λ scene.
         (list : Passed) → IsTold scene list passed → IsDrawn scene.course.last at.when
         → IsViewOf scene.elements at.pfs.0 as_of.0 (scene.view at.pfs.0 (when_of at.when))
         → ComesOut scene follows (found_at scene.view (place_of at) list) walked)) }
     ensures now { at.when ≡ None → IfOk result StaysNow }
-    ensures keeps { Same T.elements T.mark T.extents T.room T.free store.old store.new }
-    ensures borrowed { (T.name store.new ≡ T.name store.old)
-        × (T.frame store.new ≡ T.frame store.old) }
-    ensures cause { HasReadingCause (T.elements store.old) (T.extents store.old)
-        (T.faults store.old) (T.faults store.new) result }
+    ensures keeps { IsSame T.HasElements store.old store.new }
+    ensures borrowed { KeepsFrame T.Counted store.old store.new }
+    ensures cause { ReadsWithCause T.HasElements store.old store.new result }
 {
     match find_inode(store, at.pfs, at.object, as_of)? {
         Some(inode) => Ok(Ok(Stand {

@@ -1,13 +1,12 @@
 // Walks along the parts of a path, over the elements of a store.
 ghost use Rattle.std.specs.Prelude.{◌≡◌, IfOk, None, false};
-ghost use Rattle.hm_key.specs.Balance.{Balanced};
-ghost use Rattle.hm_key.specs.Stores.{Same};
 ghost use Rattle.hm_model.specs.Due.{has_id};
 ghost use Rattle.hm_model.specs.Sites.{Parts};
 ghost use Rattle.hm_model.specs.Walk.{step as stepped, walk as walked_along};
 ghost use Rattle.hm_records.specs.KeysFit.{KeysFit};
-ghost use Rattle.hm_cursor.specs.Told.{HasReadingCause};
+ghost use Rattle.hm_cursor.specs.Told.{ReadsWithCause};
 ghost use Rattle.hm_dirs.specs.Walk.{AreDrawn, ComesOut, WalkGoesOn, IsDrawn, OnShown, StaysNow, mode_of};
+ghost use Rattle.hm_key.specs.Members.{InBalance, IsSame, KeepsFrame};
 
 use crate::hash::NameHash;
 use crate::position::{Course, Follow, Lost, Stand};
@@ -35,18 +34,16 @@ pub fn walk<T: ElementStore + Extents, H: NameHash>(
     follow: Follow,
     course: Course,
 ) -> Result<Result<Stand, Lost>, Fault>
-    requires balanced { Balanced (T.elements store.old) (T.extents store.old) }
+    requires balanced { InBalance T.HasElements store.old }
     ensures ok { IfOk result (λ walked.
         OnShown (T.elements store.old) (T.extents store.old) course (λ scene.
         KeysFit (H.hash_of hash.now) scene.elements → AreDrawn scene.course.last parts.now
         → ComesOut scene (mode_of follow)
         (walked_along scene.volume scene.view (mode_of follow) parts.now) walked)) }
     ensures now { has_id (Parts parts.now) ≡ false → IfOk result StaysNow }
-    ensures keeps { Same T.elements T.mark T.extents T.room T.free store.old store.new }
-    ensures borrowed { (T.name store.new ≡ T.name store.old)
-        × (T.frame store.new ≡ T.frame store.old) }
-    ensures cause { HasReadingCause (T.elements store.old) (T.extents store.old)
-        (T.faults store.old) (T.faults store.new) result }
+    ensures keeps { IsSame T.HasElements store.old store.new }
+    ensures borrowed { KeepsFrame T.Counted store.old store.new }
+    ensures cause { ReadsWithCause T.HasElements store.old store.new result }
 {
     let mut stand = start(alloc, store, course)?;
     let mut rest = parts;
@@ -72,18 +69,16 @@ pub fn step<T: ElementStore + Extents, H: NameHash>(
     part: &Part,
     stand: Stand,
 ) -> Result<Result<Stand, Lost>, Fault>
-    requires balanced { Balanced (T.elements store.old) (T.extents store.old) }
+    requires balanced { InBalance T.HasElements store.old }
     ensures ok { IfOk result (λ walked.
         OnShown (T.elements store.old) (T.extents store.old) course (λ scene.
         KeysFit (H.hash_of hash.now) scene.elements → IsDrawn scene.course.last part.now.as_of
         → WalkGoesOn scene (mode_of follow)
         (stepped scene.volume scene.view (mode_of follow) part.now) stand walked)) }
     ensures now { part.now.as_of ≡ None → stand.at.when ≡ None → IfOk result StaysNow }
-    ensures keeps { Same T.elements T.mark T.extents T.room T.free store.old store.new }
-    ensures borrowed { (T.name store.new ≡ T.name store.old)
-        × (T.frame store.new ≡ T.frame store.old) }
-    ensures cause { HasReadingCause (T.elements store.old) (T.extents store.old)
-        (T.faults store.old) (T.faults store.new) result }
+    ensures keeps { IsSame T.HasElements store.old store.new }
+    ensures borrowed { KeepsFrame T.Counted store.old store.new }
+    ensures cause { ReadsWithCause T.HasElements store.old store.new result }
 {
     match by_id(alloc, store, part.as_of, stand)? {
         Ok(seen) => by_name(alloc, store, hash, course, follow, part, seen),

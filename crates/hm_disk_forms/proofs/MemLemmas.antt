@@ -6,7 +6,7 @@ use native.Mathlib.Decide.{dec_le}
 use Rattle.hm_disk.specs.Crash.{Told, MayLeave}
 use Rattle.hm_disk.specs.Disk.{overwritten, Written, Torn, Unchanged, Synced}
 use Rattle.hm_disk.specs.Moments.{CallElapses, Elapses, WriteElapses, SyncElapses, Each, SameLeft}
-use Rattle.hm_disk_forms.specs.MemDisk.{DiskState, MemPast, zeros, changed, told_after, told_of, left_after, left_of, past_of, up_to_sync, written}
+use Rattle.hm_disk_forms.specs.MemDisk.{DiskState, MemPast, zeros, changed, told_after, told_of, left_after, may_be_left, past_of, up_to_sync, written}
 use Rattle.hm_disk_forms.specs.MemLaws.{changed-write, moment-replayed, replayed-append}
 use Rattle.hm_disk_forms.specs.PastLaws.{past-write}
 use Rattle.hm_disk_forms.specs.declared.change.Change.{Change}
@@ -74,15 +74,15 @@ module _ (old new : DiskState) (sizes : new.size ≡ old.size) where
   pub past-same : new.changes ≡ old.changes → past_of new ≡ past_of old
   past-same changes = past_is old new sizes (ap up_to_sync changes)
 
-  pub SameLeft-same : new.changes ≡ old.changes → SameLeft (left_of old) (left_of new)
+  pub SameLeft-same : new.changes ≡ old.changes → SameLeft (may_be_left old) (may_be_left new)
   SameLeft-same changes =
-      subst (λ (n : ℕ). SameLeft (left_of old) (left_after n new.changes)) (sym sizes)
-      (subst (λ (cs : List Change). SameLeft (left_of old) (left_after old.size cs)) (sym changes) (λ moment image. ((λ left. left), (λ left. left))))
+      subst (λ (n : ℕ). SameLeft (may_be_left old) (left_after n new.changes)) (sym sizes)
+      (subst (λ (cs : List Change). SameLeft (may_be_left old) (left_after old.size cs)) (sym changes) (λ moment image. ((λ left. left), (λ left. left))))
 
-  pub Elapses-same : (Within : List ℕ → Type 0) → new.changes ≡ old.changes → Elapses Within (left_of old) (left_of new) (told_of old) (told_of new)
+  pub Elapses-same : (Within : List ℕ → Type 0) → new.changes ≡ old.changes → Elapses Within (may_be_left old) (may_be_left new) (told_of old) (told_of new)
   Elapses-same Within changes =
-      subst (λ (n : ℕ). Elapses Within (left_of old) (left_after n new.changes) (told_of old) (told_after n new.changes)) (sym sizes)
-      (subst (λ (cs : List Change). Elapses Within (left_of old) (left_after old.size cs) (told_of old) (told_after old.size cs)) (sym changes)
+      subst (λ (n : ℕ). Elapses Within (may_be_left old) (left_after n new.changes) (told_of old) (told_after n new.changes)) (sym sizes)
+      (subst (λ (cs : List Change). Elapses Within (may_be_left old) (left_after old.size cs) (told_of old) (told_after old.size cs)) (sym changes)
       (record { later = omega arith; size = refl; only = λ moment image early left. inl left; keeps = λ moment image early left. left }))
 
   told-changed : (change : Change) → new.changes ≡ old.changes ++ change ∷ [] → told_of new ≡ changed change (told_of old)
@@ -91,10 +91,10 @@ module _ (old new : DiskState) (sizes : new.size ≡ old.size) where
   elapses_changed : (change : Change) (Within : List ℕ → Type 0) → new.changes ≡ old.changes ++ change ∷ []
       → length (changed change (told_of old)).bytes ≡ length (told_of old).bytes
       → Each (MayLeave (changed change (told_of old)).bytes (changed change (told_of old)).unsettled) Within
-      → Elapses Within (left_of old) (left_of new) (told_of old) (told_of new)
+      → Elapses Within (may_be_left old) (may_be_left new) (told_of old) (told_of new)
   elapses_changed change Within changes sized within =
-      subst (λ (n : ℕ). Elapses Within (left_of old) (left_after n new.changes) (told_of old) (told_after n new.changes)) (sym sizes)
-      (subst (λ (cs : List Change). Elapses Within (left_of old) (left_after old.size cs) (told_of old) (told_after old.size cs)) (sym changes)
+      subst (λ (n : ℕ). Elapses Within (may_be_left old) (left_after n new.changes) (told_of old) (told_after n new.changes)) (sym sizes)
+      (subst (λ (cs : List Change). Elapses Within (may_be_left old) (left_after old.size cs) (told_of old) (told_after old.size cs)) (sym changes)
       (elapses_more old.size old.changes change Within sized within))
 
   -- a write that was recorded
@@ -123,7 +123,7 @@ module _ (old new : DiskState) (sizes : new.size ≡ old.size) where
     pub past-written : past_of new ≡ past_of old
     past-written = past_is old new sizes (ap up_to_sync changes ∙ past-write old.changes place count bytes)
 
-    elapses_write : WriteElapses place count (left_of old) (left_of new) (told_of old) (told_of new)
+    elapses_write : WriteElapses place count (may_be_left old) (may_be_left new) (told_of old) (told_of new)
     elapses_write =
         let bytes_then = overwritten (told_of old).bytes place bytes in
         let ranges = (place, count) ∷ (told_of old).unsettled in
@@ -133,7 +133,7 @@ module _ (old new : DiskState) (sizes : new.size ≡ old.size) where
         (λ byte outside. outside) (subst (λ (told : Told). MayLeave told.bytes told.unsettled image) is_written left))
 
     -- its range is unsettled besides, so it was begun
-    pub CallElapses-write : CallElapses place count (left_of old) (left_of new) (told_of old) (told_of new)
+    pub CallElapses-write : CallElapses place count (may_be_left old) (may_be_left new) (told_of old) (told_of new)
     CallElapses-write = record {
       begun = elapses_write;
       not_begun = λ same. absurd (omega (arith, ap length (sym Torn-write.unsettled_are ∙ same.unsettled_are)));
@@ -144,7 +144,7 @@ module _ (old new : DiskState) (sizes : new.size ≡ old.size) where
   Synced-sync changes = subst (λ (told : Told). Synced (told_of old) told) (sym (told-changed Sync changes))
       (record { bytes_are = refl; unsettled_are = refl; later = omega arith })
 
-  pub SyncElapses-sync : new.changes ≡ old.changes ++ Sync ∷ [] → SyncElapses (left_of old) (left_of new) (told_of old) (told_of new)
+  pub SyncElapses-sync : new.changes ≡ old.changes ++ Sync ∷ [] → SyncElapses (may_be_left old) (may_be_left new) (told_of old) (told_of new)
   SyncElapses-sync changes = elapses_changed Sync _ changes refl
       (λ image left. MayLeave-fewer (told_of old).bytes image (told_of old).unsettled [] (λ byte outside. tt) left)
 
@@ -153,7 +153,7 @@ module _ (old new : DiskState) (sizes : new.size ≡ old.size) where
   Unchanged-same changes = subst (λ (told : Told). Unchanged (told_of old) told) (sym (told-same changes))
       (record { bytes_are = refl; unsettled_are = refl; moment_is = refl })
 
-  pub CallElapses-same : (place count : ℕ) → new.changes ≡ old.changes → CallElapses place count (left_of old) (left_of new) (told_of old) (told_of new)
+  pub CallElapses-same : (place count : ℕ) → new.changes ≡ old.changes → CallElapses place count (may_be_left old) (may_be_left new) (told_of old) (told_of new)
   CallElapses-same place count changes = record { begun = Elapses-same _ changes; not_begun = λ same. SameLeft-same changes }
 
 -- what a call came to

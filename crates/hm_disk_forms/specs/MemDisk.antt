@@ -17,8 +17,8 @@ unfoldable pub zeros : ℕ → List ℕ
 zeros size = replicate size 0
 
 -- a disk of zeros that has had no call
-abbrev pub blank : ℕ → List ℕ → DiskState
-blank size fails = record { size = size; changes = []; calls = no_calls fails }
+abbrev pub blank_disk : ℕ → List ℕ → DiskState
+blank_disk size fails = record { size = size; changes = []; calls = no_calls fails }
 
 -- a write lies inside a disk of this size, and the bytes that it put lie in its range
 abbrev pub fits : ℕ → ℕ → ℕ → List ℕ → Bool
@@ -67,8 +67,8 @@ left_after size changes moment image =
     (told_after size (take k changes)).unsettled image
 
 -- what a crash since a moment may have left of a disk
-abbrev pub left_of : DiskState → ℕ → List ℕ → Type 0
-left_of d moment image = left_after d.size d.changes moment image
+abbrev pub may_be_left : DiskState → ℕ → List ℕ → Type 0
+may_be_left d moment image = left_after d.size d.changes moment image
 
 -- what a disk told after its first so many changes
 abbrev pub told_then : ℕ → DiskState → Told
@@ -155,7 +155,7 @@ MayKeepHalf old new place bytes =
 
 -- the whole change of a write: a listed call fails, and any other puts all the bytes, or fails for
 -- want of memory
-pub record Writes {E : Type 0} (old new : DiskState) (place : ℕ) (bytes : List ℕ)
+pub record WriteChange {E : Type 0} (old new : DiskState) (place : ℕ) (bytes : List ℕ)
     (result : Result (Unit {0}) E) : Type 0 where
   pub listed : IsNextListed old.calls → IsErr result
   pub ok : OnOk result (new ≡ with_calls (with_write old place bytes bytes) (called old.calls))

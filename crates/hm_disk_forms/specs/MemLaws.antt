@@ -4,7 +4,7 @@ use Rattle.std.proofs.Common.{ap, refl, sym, ◌∙◌, subst, arith}
 use Rattle.std.proofs.lemmas.Bool.{and_from, and_parts, le-leb, leb-true}
 use Rattle.std.proofs.lemmas.List.{take_all, take-append-drop}
 use Rattle.hm_disk.specs.Crash.{Told, MayLeave}
-use Rattle.hm_disk_forms.specs.MemDisk.{DiskState, changed, fits, left_of, replayed, told_after, told_of, written, zeros}
+use Rattle.hm_disk_forms.specs.MemDisk.{DiskState, changed, fits, may_be_left, replayed, told_after, told_of, written, zeros}
 use Rattle.hm_disk.specs.WriteLaws.{MayLeave-added, MayLeave-overwritten}
 use Rattle.hm_disk_forms.specs.declared.change.Change.{Change}
 use Rattle.hm_disk_forms.specs.declared.change.Change.TheVariants.{Write, Sync}
@@ -70,7 +70,7 @@ told-rest d k =
     ∙ ap (told_after d.size) (take-append-drop k d.changes)
 
 pub counts : (d : DiskState) (moment : ℕ) (image : List ℕ) → moment ≤ (told_of d).moment
-    → MayLeave (told_of d).bytes (told_of d).unsettled image → left_of d moment image
+    → MayLeave (told_of d).bytes (told_of d).unsettled image → may_be_left d moment image
 counts d moment image early left =
     let here = told-all d (length d.changes) (omega arith) in (
       length d.changes,
@@ -79,7 +79,7 @@ counts d moment image early left =
       subst (λ (told : Told). MayLeave told.bytes told.unsettled image) (sym here) left,
     )
 
-pub only : (d : DiskState) (image : List ℕ) → left_of d (told_of d).moment image
+pub only : (d : DiskState) (image : List ℕ) → may_be_left d (told_of d).moment image
     → MayLeave (told_of d).bytes (told_of d).unsettled image
 only d image left =
     let rest = told-rest d left.0 in
@@ -88,5 +88,5 @@ only d image left =
     (subst (λ (told : Told). told.moment ≤ (told_after d.size (take left.0 d.changes)).moment) (sym rest) left.2) left.3)
 
 pub earlier : (d : DiskState) (first moment : ℕ) (image : List ℕ) → first ≤ moment
-    → left_of d moment image → left_of d first image
+    → may_be_left d moment image → may_be_left d first image
 earlier d first moment image before left = (left.0, left.1, omega (arith, before, left.2), left.3)

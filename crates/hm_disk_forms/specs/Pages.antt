@@ -13,12 +13,12 @@ byte_in None at = 0
 byte_in (Some page) at = slice_index page.value at
 
 -- a byte of these pages, from the start of the disk
-abbrev pub byte_of : Pages → ℕ → ℕ
-byte_of p byte = byte_in (tree.get nat_cmp p.pages (byte / PAGE_BYTES)) (byte % PAGE_BYTES)
+abbrev pub byte_in_pages : Pages → ℕ → ℕ
+byte_in_pages p byte = byte_in (tree.get nat_cmp p.pages (byte / PAGE_BYTES)) (byte % PAGE_BYTES)
 
 -- the pages of all these bytes are there
-abbrev pub HasPages : Pages → ℕ → ℕ → Type 0
-HasPages p place count =
+abbrev pub PagesAreThere : Pages → ℕ → ℕ → Type 0
+PagesAreThere p place count =
     (i : ℕ) → i < count → IsSome (tree.get nat_cmp p.pages ((place + i) / PAGE_BYTES))
 
 -- one disk reads as the other does, but for these bytes from this place on

@@ -2,7 +2,7 @@
 use Rattle.std.specs.Prelude.{◌≡◌, ◌⊎◌, ℕ, zero, suc, ◌≤◌, List, [], ◌∷◌, ◌++◌, length, take, drop}
 use Rattle.std.proofs.Common.{ap, refl, sym, ◌∙◌, subst, arith, inl, inr}
 use Rattle.hm_disk.specs.Crash.{Told, MayLeave}
-use Rattle.hm_disk_forms.specs.MemDisk.{DiskState, before_sync, changed, left_before, left_of, past_of, replayed, told_after, told_of, up_to_sync}
+use Rattle.hm_disk_forms.specs.MemDisk.{DiskState, before_sync, changed, left_before, may_be_left, past_of, replayed, told_after, told_of, up_to_sync}
 use Rattle.hm_disk_forms.specs.MemLaws.{moment-write, moment-replayed, left-stays, told-rest}
 use Rattle.hm_disk_forms.specs.declared.change.Change.{Change}
 use Rattle.hm_disk_forms.specs.declared.change.Change.TheVariants.{Write, Sync}
@@ -72,7 +72,7 @@ front-take ds cs k below short front = ap (λ (l : List Change). take k l) (sym 
 abbrev start : ℕ → Told
 start size = told_after size []
 
-pub splits : (d : DiskState) (moment : ℕ) (image : List ℕ) → left_of d moment image
+pub splits : (d : DiskState) (moment : ℕ) (image : List ℕ) → may_be_left d moment image
     → left_before (past_of d) moment image ⊎ MayLeave (told_of d).bytes (told_of d).unsettled image
 splits d moment image left = cases (split-from d.changes (start d.size) left.0 left.1)
   where
@@ -93,7 +93,7 @@ splits d moment image left = cases (split-from d.changes (start d.size) left.0 l
         (left-stays (drop left.0 d.changes) (told_after d.size (take left.0 d.changes)) image
         (subst (λ (told : Told). told.moment ≤ (told_after d.size (take left.0 d.changes)).moment) (sym rest) h) left.3))
 
-pub joins : (d : DiskState) (moment : ℕ) (image : List ℕ) → left_before (past_of d) moment image → left_of d moment image
+pub joins : (d : DiskState) (moment : ℕ) (image : List ℕ) → left_before (past_of d) moment image → may_be_left d moment image
 joins d moment image left =
     let over = over-front d.changes in
     let same = front-take (up_to_sync d.changes) d.changes left.0 left.1 over.0 over.1 in (

@@ -6,8 +6,9 @@ ghost use Rattle.hm_types.specs.Calls.{no_calls};
 ghost use Rattle.hm_types.specs.Faults.{HasCause};
 ghost use Rattle.hm_disk.specs.Disk.{Written, MayBeTorn, Synced};
 ghost use Rattle.hm_disk.specs.Moments.{CallElapses, SyncElapses, SameLeft};
-ghost use Rattle.hm_disk_forms.specs.MemDisk.{told_of, told_after, left_of, past_of, blank, after_first, with_change, with_calls};
-ghost use Rattle.hm_disk_forms.specs.MemDisk.{FitsIn, OnlyCounts, Writes, Syncs};
+ghost use Rattle.hm_disk_forms.specs.MemDisk.{told_of, told_after, may_be_left, past_of, blank_disk};
+ghost use Rattle.hm_disk_forms.specs.MemDisk.{after_first, with_change, with_calls};
+ghost use Rattle.hm_disk_forms.specs.MemDisk.{FitsIn, OnlyCounts, WriteChange, Syncs};
 ghost use Rattle.hm_disk_forms.specs.MemDisk.{AreWrites, IsWrite, KeepsLeft, MayLeaveAfter, told_then};
 ghost use Rattle.hm_disk_forms.specs.declared.change.Change.TheVariants.{Write, Sync};
 
@@ -49,7 +50,7 @@ impl MemDisk {
     /// fail, by their numbers from 1 on, in any order; `size`, `read_at`, `write_at` and `sync` all
     /// count. It takes no memory.
     pub fn new(alloc: Global, bigblocks: u32, fails: Vec<u64>) -> MemDisk
-        ensures value { result ≡ blank (bigblocks * BIGBLOCK_BYTES) fails.items }
+        ensures value { result ≡ blank_disk (bigblocks * BIGBLOCK_BYTES) fails.items }
         ensures sized { length (told_of result).bytes ≡ bigblocks * BIGBLOCK_BYTES }
     {
         MemDisk::of_size(alloc, u64::from(bigblocks) * BIGBLOCK_BYTES, fails)
@@ -57,7 +58,7 @@ impl MemDisk {
 
     // A disk of so many bytes, all of them 0.
     fn of_size(alloc: Global, size: u64, fails: Vec<u64>) -> MemDisk
-        ensures { result ≡ blank size fails.items }
+        ensures { result ≡ blank_disk size fails.items }
     {
         MemDisk {
             alloc,
@@ -106,7 +107,7 @@ impl MemDisk {
         ensures told { IfOk result (λ d. told_of d
             ≡ told_after self.now.size (take count self.now.changes)) }
         ensures left { IfOk result (λ d. (moment : ℕ) → moment ≤ (told_of d).moment →
-            left_of self.now moment (told_of d).bytes) }
+            may_be_left self.now moment (told_of d).bytes) }
     {
         let mut disk = MemDisk::of_size(self.alloc, self.size, Vec::new(self.alloc));
         for index in 0..count {
@@ -125,7 +126,7 @@ impl MemDisk {
         ensures settled { IfOk result (λ d. (told_of d).unsettled ≡ []) }
         ensures left_then { IfOk result (λ d. MayLeaveAfter count self.now (told_of d).bytes) }
         ensures left { IfOk result (λ d. (moment : ℕ) → moment ≤ (told_then count self.now).moment →
-            left_of self.now moment (told_of d).bytes) }
+            may_be_left self.now moment (told_of d).bytes) }
     {
         let settled = self.settled(count);
         let mut disk = self.after_changes(settled)?;
@@ -229,7 +230,7 @@ impl Disk for MemDisk {
 
     ghost told = { λ d. Some (told_of d) };
 
-    ghost left_since = { left_of };
+    ghost left_since = { may_be_left };
 
     ghost Past = { MemPast };
 
@@ -254,7 +255,7 @@ impl Disk for MemDisk {
         ensures ok { IfOk result (λ size. size ≡ length (told_of self.old).bytes) }
         ensures same { told_of self.new ≡ told_of self.old }
         ensures past { past_of self.new ≡ past_of self.old }
-        ensures any_moment { SameLeft (left_of self.old) (left_of self.new) }
+        ensures any_moment { SameLeft (may_be_left self.old) (may_be_left self.new) }
         ensures cause { HasCause self.old.calls.faults self.new.calls.faults result }
         ensures change { OnlyCounts self.old self.new result }
     {
@@ -270,7 +271,7 @@ impl Disk for MemDisk {
         ensures err { OnErr result (buf.new ≡ buf.old) }
         ensures same { told_of self.new ≡ told_of self.old }
         ensures past { past_of self.new ≡ past_of self.old }
-        ensures any_moment { SameLeft (left_of self.old) (left_of self.new) }
+        ensures any_moment { SameLeft (may_be_left self.old) (may_be_left self.new) }
         ensures cause { HasCause self.old.calls.faults self.new.calls.faults result }
         ensures change { OnlyCounts self.old self.new result }
     {
@@ -288,10 +289,10 @@ impl Disk for MemDisk {
             (MayBeTorn place (length bytes.now) (told_of self.old) (told_of self.new)) }
         ensures moment { (told_of self.new).moment ≡ (told_of self.old).moment }
         ensures past { past_of self.new ≡ past_of self.old }
-        ensures any_moment { CallElapses place (length bytes.now) (left_of self.old)
-            (left_of self.new) (told_of self.old) (told_of self.new) }
+        ensures any_moment { CallElapses place (length bytes.now) (may_be_left self.old)
+            (may_be_left self.new) (told_of self.old) (told_of self.new) }
         ensures cause { HasCause self.old.calls.faults self.new.calls.faults result }
-        ensures change { Writes self.old self.new place bytes.now result }
+        ensures change { WriteChange self.old self.new place bytes.now result }
     {
         if self.calls.begin().is_err() {
             // The call has failed already, so a refused growth is no second fault.
@@ -309,7 +310,7 @@ impl Disk for MemDisk {
         ensures ok { OnOk result (Synced (told_of self.old) (told_of self.new)) }
         ensures err { OnErr result (told_of self.new ≡ told_of self.old) }
         ensures past { OnErr result (past_of self.new ≡ past_of self.old) }
-        ensures any_moment { SyncElapses (left_of self.old) (left_of self.new) (told_of self.old)
+        ensures any_moment { SyncElapses (may_be_left self.old) (may_be_left self.new) (told_of self.old)
             (told_of self.new) }
         ensures cause { HasCause self.old.calls.faults self.new.calls.faults result }
         ensures change { Syncs self.old self.new result }

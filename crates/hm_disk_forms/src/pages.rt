@@ -4,7 +4,7 @@ ghost use Rattle.std.specs.Ordering.{nat_cmp};
 ghost use Rattle.std.specs.BTreeMap as tree;
 ghost use Rattle.hm_types.specs.declared.limits.TheConstants.{PAGE_BYTES};
 ghost use Rattle.hm_disk.specs.Disk.{overwritten};
-ghost use Rattle.hm_disk_forms.specs.Pages.{HasPages, Overwrites, byte_of};
+ghost use Rattle.hm_disk_forms.specs.Pages.{PagesAreThere, Overwrites, byte_in_pages};
 
 use hm_types::{NoMemory, PAGE_BYTES};
 use std::alloc::Global;
@@ -23,7 +23,7 @@ pub(crate) struct Pages {
 impl Pages {
     /// All bytes are 0. It takes no memory.
     pub(crate) fn new(alloc: Global) -> Pages
-        ensures zero { (byte : ℕ) → byte_of result byte ≡ 0 }
+        ensures zero { (byte : ℕ) → byte_in_pages result byte ≡ 0 }
     {
         Pages {
             alloc,
@@ -35,8 +35,8 @@ impl Pages {
     /// `NoMemory`.
     pub(crate) fn make_room(&mut self, place: u64, count: usize) -> Result<(), NoMemory>
         requires range { place + count < 2 ^ 64 }
-        ensures made { OnOk result (HasPages self.new place count) }
-        ensures same { (byte : ℕ) → byte_of self.new byte ≡ byte_of self.old byte }
+        ensures made { OnOk result (PagesAreThere self.new place count) }
+        ensures same { (byte : ℕ) → byte_in_pages self.new byte ≡ byte_in_pages self.old byte }
     {
         for number in place / PAGE..(place + count as u64).div_ceil(PAGE) {
             self.make(number)?;
@@ -47,8 +47,8 @@ impl Pages {
     /// Writes the bytes from `place` on. It takes no memory, since their pages are there.
     pub(crate) fn put(&mut self, place: u64, bytes: &[u8])
         requires range { place + length bytes.now < 2 ^ 64 }
-        requires there { HasPages self.old place (length bytes.now) }
-        ensures { Overwrites (byte_of self.old) (byte_of self.new) place bytes.now }
+        requires there { PagesAreThere self.old place (length bytes.now) }
+        ensures { Overwrites (byte_in_pages self.old) (byte_in_pages self.new) place bytes.now }
     {
         let mut done = 0;
         while done < bytes.len() {
@@ -63,7 +63,7 @@ impl Pages {
     pub(crate) fn read(&self, place: u64, buf: &mut [u8])
         requires range { place + length buf.old < 2 ^ 64 }
         ensures { (i : ℕ) → i < length buf.old →
-            slice_index buf.new i ≡ byte_of self.now (place + i) }
+            slice_index buf.new i ≡ byte_in_pages self.now (place + i) }
     {
         let mut done = 0;
         while done < buf.len() {
@@ -79,7 +79,7 @@ impl Pages {
         ensures made { OnOk result (IsSome (tree.get nat_cmp self.new.pages number)) }
         ensures others { (k : ℕ) → IsSome (tree.get nat_cmp self.old.pages k) →
             IsSome (tree.get nat_cmp self.new.pages k) }
-        ensures same { (byte : ℕ) → byte_of self.new byte ≡ byte_of self.old byte }
+        ensures same { (byte : ℕ) → byte_in_pages self.new byte ≡ byte_in_pages self.old byte }
     {
         if !self.pages.contains_key(&number) {
             let page = zero_page(self.alloc)?;
@@ -92,7 +92,7 @@ impl Pages {
     fn put_piece(&mut self, place: u64, bytes: &[u8])
         requires there { IsSome (tree.get nat_cmp self.old.pages (place / PAGE_BYTES)) }
         requires within { place % PAGE_BYTES + length bytes.now ≤ PAGE_BYTES }
-        ensures written { Overwrites (byte_of self.old) (byte_of self.new) place bytes.now }
+        ensures written { Overwrites (byte_in_pages self.old) (byte_in_pages self.new) place bytes.now }
         ensures others { (k : ℕ) → IsSome (tree.get nat_cmp self.old.pages k) →
             IsSome (tree.get nat_cmp self.new.pages k) }
     {
@@ -104,7 +104,7 @@ impl Pages {
     // Reads bytes that lie inside one page.
     fn read_piece(&self, place: u64, buf: &mut [u8])
         requires within { place % PAGE_BYTES + length buf.old ≤ PAGE_BYTES }
-        ensures { (i : ℕ) → i < length buf.old → slice_index buf.new i ≡ byte_of self.now (place + i) }
+        ensures { (i : ℕ) → i < length buf.old → slice_index buf.new i ≡ byte_in_pages self.now (place + i) }
     {
         match self.pages.get(&(place / PAGE)) {
             Some(page) => {

@@ -14,7 +14,7 @@ use Rattle.hm_records.specs.View.{IsObject}
 use Rattle.hm_records.proofs.ObjectChangeLemmas.{object_same_view}
 use Rattle.hm_records.proofs.SubjectLemmas.{same_subject}
 use Rattle.hm_cursor.specs.Told.{Lists, fulls}
-use Rattle.hm_cursor.specs.Version.{IsCountedIn, IsFirst}
+use Rattle.hm_cursor.specs.Version.{IsCountedIn, IsLast, numbered}
 use Rattle.hm_cursor.specs.Write.{IsFreshFor, KeepPlaces, Rewrites}
 use Rattle.hm_cursor.proofs.FollowLemmas.{closing_follows, follow_twice}
 use Rattle.hm_cursor.proofs.ToldLemmas.{newest_counted}
@@ -70,92 +70,102 @@ module _ (at : Key) (pfs obj key last i : ℕ) (here : subject_of at ≡ bytes_s
       let up = least y (counted_in lists.0 at last i pfs obj key n y here newest from (omega (arith, below, within))) in
       absurd (omega (arith, up, ap (λ (s : Subject). s.key) newest.version.about, below))
 
-  module _ (first : ℕ) (was mid : Lists) (older : AreOlder pfs obj i first (fulls was)) (gone : HaveClosed pfs obj i first key was mid) where
-    -- what is not closed yet is older still
-    still_older : (n : ℕ) → first ≤ n → IsFreshFor (bytes_subject pfs obj n) i (fulls mid)
-    still_older n from = gone.closes.writes.fresh (bytes_subject pfs obj n) (λ x new. absurd new) (older n from)
+-- a key with another number is about bytes that end there
+pub numbered_about : (at : Key) (pfs obj key first : ℕ) → subject_of at ≡ bytes_subject pfs obj key
+    → subject_of (numbered at first) ≡ bytes_subject pfs obj first
+numbered_about at pfs obj key first here = ap (λ (s : Subject). record s { key = first }) here
 
-    -- and does not count later either
-    nothing_later : (limit : ℕ) → limit ≤ last + 1 → first ≤ key
-        → ((y : Element) → IsCountedIn mid.0 at last i y → limit ≤ y.base.key)
-        → (t n : ℕ) → i ≤ t → key ≤ n → n < limit → CountsNothing (Counts (fulls mid) t) (bytes_subject pfs obj n)
-    nothing_later limit within low least t n late from below bytes counts =
-        nothing_between mid limit within least n from below bytes
-        ((fresh_later (bytes_subject pfs obj n) i t (fulls mid) bytes (still_older n (omega (arith, low, from))) late).0 counts)
+-- The bytes that end up to `last` are closed from the greatest offset down: so far those that end above `key`.
+module _ (at : Key) (pfs obj first key last i : ℕ) (here : subject_of at ≡ bytes_subject pfs obj first) (was mid : Lists)
+    (older : AreOlder pfs obj i first (fulls was)) (gone : HaveClosed pfs obj i (key + 1) (last + 1) was mid) where
+  -- what is not closed yet is older still
+  still_older : (n : ℕ) → first ≤ n → IsFreshFor (bytes_subject pfs obj n) i (fulls mid)
+  still_older n from = gone.closes.writes.fresh (bytes_subject pfs obj n) (λ x new. absurd new) (older n from)
+
+  -- where nothing that counts in the span ends at an offset, nothing that ends there counts later
+  nothing_at : (t n : ℕ) → i ≤ t → first ≤ n → n ≤ key → ((y : Element) → IsCountedIn mid.0 at key i y → y.base.key ≡ n → ⊥)
+      → CountsNothing (Counts (fulls mid) t) (bytes_subject pfs obj n)
+  nothing_at t n late from to none bytes counts =
+      let now = (fresh_later (bytes_subject pfs obj n) i t (fulls mid) bytes (still_older n from) late).0 counts in
+      let (y, newest, same) = newest_counted mid.0 mid.1 (bytes_subject pfs obj n) i bytes now in
+      none y (counted_in mid.0 at key i pfs obj first n y here newest from to) (ap (λ (s : Subject). s.key) newest.version.about)
+
+  module _ (e : Element) (found : IsLast mid.0 at key i (Some e)) where
+    low : first ≤ e.base.key
+    low = omega (arith, found.place.from, ap (λ (s : Subject). s.key) here)
+
+    about : subject_of (element_key e) ≡ bytes_subject pfs obj e.base.key
+    about = span_about at key pfs obj first e here found.place
 
     -- what was found may be closed
-    pub closed_fresh : (e : Element) → IsFirst mid.0 at last i (Some e) → first ≤ key → IsFreshFor (subject_of (element_key e)) i (fulls mid)
-    closed_fresh e found low =
-        subst (λ (s : Subject). IsFreshFor s i (fulls mid)) (sym (span_about at last pfs obj key e here found.place))
-        (still_older e.base.key (omega (arith, low, found.place.from, ap (λ (s : Subject). s.key) here)))
+    pub closed_fresh : IsFreshFor (subject_of (element_key e)) i (fulls mid)
+    closed_fresh = subst (λ (s : Subject). IsFreshFor s i (fulls mid)) (sym about) (still_older e.base.key low)
 
     -- one more is closed
-    pub closed_more : (e : Element) (now : Lists) → IsFirst mid.0 at last i (Some e) → first ≤ key → IsBalanced now.0 now.1
-        → KeepPlaces mid now → Rewrites (subject_of (element_key e)) None i (fulls mid) (fulls now)
-        → HaveClosed pfs obj i first (e.base.key + 1) was now
-    closed_more e now found low balanced placed rewrites = record {
+    pub closed_more : (now : Lists) → key ≤ last → IsBalanced now.0 now.1 → KeepPlaces mid now
+        → Rewrites (subject_of (element_key e)) None i (fulls mid) (fulls now) → HaveClosed pfs obj i e.base.key (last + 1) was now
+    closed_more now within balanced placed rewrites = record {
       balanced = balanced;
       placed = placed_both was mid now gone.placed placed;
       closes = record {
         writes = writes_again pfs i IsNothing (fulls was) (fulls mid) (fulls now) (λ x y same kind bytes new. new) gone.closes.writes
             (writes_within pfs i (bytes_subject pfs obj e.base.key) None IsNothing (fulls mid) (fulls now) (bytes_within pfs obj e.base.key)
             (λ x about made now. none_some x.bytes now) wrote);
-        gone = λ t n late from below. by_place t n late from (cases_lt n key) (cases_lt n e.base.key) below;
+        gone = λ t n late from below. by_place t n late from (cases_lt key n) (cases_lt e.base.key n) below;
         beside = λ t s bytes apart. both t s bytes apart (cases_lt t i);
         follows = follow_twice (fulls was) (fulls mid) (fulls now) gone.closes.follows
             (closing_follows (bytes_subject pfs obj e.base.key) i (fulls mid) (fulls now) wrote);
       };
     } where
-      up : key ≤ e.base.key
-      up = omega (arith, found.place.from, ap (λ (s : Subject). s.key) here)
+      down : e.base.key ≤ key
+      down = found.place.to
 
       wrote : Rewrites (bytes_subject pfs obj e.base.key) None i (fulls mid) (fulls now)
-      wrote = subst (λ (s : Subject). Rewrites s None i (fulls mid) (fulls now)) (span_about at last pfs obj key e here found.place) rewrites
+      wrote = subst (λ (s : Subject). Rewrites s None i (fulls mid) (fulls now)) about rewrites
 
       stays : (t n : ℕ) → i ≤ t → n ≢ e.base.key → CountsNothing (Counts (fulls mid) t) (bytes_subject pfs obj n)
           → CountsNothing (Counts (fulls now) t) (bytes_subject pfs obj n)
       stays t n late differ nothing bytes counts =
           nothing bytes (((wrote.present t late).elsewhere (bytes_subject pfs obj n) bytes (ends_apart pfs obj n e.base.key differ)).0 counts)
 
-      by_place : (t n : ℕ) → i ≤ t → first ≤ n → (n < key) ⊎ (key ≤ n) → (n < e.base.key) ⊎ (e.base.key ≤ n) → n < e.base.key + 1
+      by_place : (t n : ℕ) → i ≤ t → e.base.key ≤ n → (key < n) ⊎ (n ≤ key) → (e.base.key < n) ⊎ (n ≤ e.base.key) → n < last + 1
           → CountsNothing (Counts (fulls now) t) (bytes_subject pfs obj n)
-      by_place t n late from (inl before) less below =
-          stays t n late (λ is. absurd (omega (arith, before, up, is))) (gone.closes.gone t n late from before)
-      by_place t n late from (inr not) (inl less) below =
-          stays t n late (λ is. absurd (omega (arith, less, is)))
-          (nothing_later e.base.key (omega (arith, found.place.to)) low found.first t n late not less)
-      by_place t n late from (inr not) (inr there) below =
-          let same : n ≡ e.base.key = omega (arith, there, below) in
+      by_place t n late from (inl after) more below =
+          stays t n late (λ is. absurd (omega (arith, after, down, is))) (gone.closes.gone t n late (omega (arith, after)) below)
+      by_place t n late from (inr to) (inl more) below =
+          stays t n late (λ is. absurd (omega (arith, more, is)))
+          (nothing_at t n late (omega (arith, low, from)) to (λ y is ends. absurd (let most = found.most y is in omega (arith, most, ends, more))))
+      by_place t n late from (inr to) (inr there) below =
+          let same : n ≡ e.base.key = omega (arith, there, from) in
           λ bytes counts. none_some bytes (((wrote.present t late).about bytes).0
           (subst (λ (m : ℕ). Counts (fulls now) t (bytes_subject pfs obj m) bytes) same counts))
 
-      both : (t : ℕ) (s : Subject) (bytes : List ℕ) → IsApart pfs obj first (e.base.key + 1) s → (t < i) ⊎ (i ≤ t)
+      both : (t : ℕ) (s : Subject) (bytes : List ℕ) → IsApart pfs obj e.base.key (last + 1) s → (t < i) ⊎ (i ≤ t)
           → Counts (fulls now) t s bytes ↔ Counts (fulls was) t s bytes
       both t s bytes apart time =
-          let one = gone.closes.beside t s bytes (λ n from below. apart n from (omega (arith, below, up))) in
+          let one = gone.closes.beside t s bytes (λ n from below. apart n (omega (arith, from, down)) below) in
           let other = step time in
           (λ h. one.0 (other.0 h), λ h. other.1 (one.1 h))
         where
           step : (t < i) ⊎ (i ≤ t) → Counts (fulls now) t s bytes ↔ Counts (fulls mid) t s bytes
           step (inl before) = wrote.past t before s bytes
-          step (inr late) = (wrote.present t late).elsewhere s bytes (apart e.base.key (omega (arith, low, up)) (omega arith))
+          step (inr late) = (wrote.present t late).elsewhere s bytes (apart e.base.key (omega arith) (omega (arith, down, within)))
 
-    -- none is left
-    pub closed_all : IsFirst mid.0 at last i None → first ≤ key → key ≤ last → HaveClosed pfs obj i first (last + 1) was mid
-    closed_all none low more = record {
-      balanced = gone.balanced;
-      placed = gone.placed;
-      closes = record {
-        writes = gone.closes.writes;
-        gone = λ t n late from below. by_place t n late from (cases_lt n key) below;
-        beside = λ t s bytes apart. gone.closes.beside t s bytes (λ n from below. apart n from (omega (arith, below, more)));
-        follows = gone.closes.follows;
-      };
-    } where
-      by_place : (t n : ℕ) → i ≤ t → first ≤ n → (n < key) ⊎ (key ≤ n) → n < last + 1 → CountsNothing (Counts (fulls mid) t) (bytes_subject pfs obj n)
-      by_place t n late from (inl before) below = gone.closes.gone t n late from before
-      by_place t n late from (inr not) below =
-          nothing_later (last + 1) (omega arith) low (λ y is. absurd (none y is)) t n late not below
+  -- none is left
+  pub closed_all : IsLast mid.0 at key i None → first ≤ key → key ≤ last → HaveClosed pfs obj i first (last + 1) was mid
+  closed_all none more within = record {
+    balanced = gone.balanced;
+    placed = gone.placed;
+    closes = record {
+      writes = gone.closes.writes;
+      gone = λ t n late from below. by_place t n late from (cases_lt key n) below;
+      beside = λ t s bytes apart. gone.closes.beside t s bytes (λ n from below. apart n (omega (arith, from, more)) below);
+      follows = gone.closes.follows;
+    };
+  } where
+    by_place : (t n : ℕ) → i ≤ t → first ≤ n → (key < n) ⊎ (n ≤ key) → n < last + 1 → CountsNothing (Counts (fulls mid) t) (bytes_subject pfs obj n)
+    by_place t n late from (inl after) below = gone.closes.gone t n late (omega (arith, after)) below
+    by_place t n late from (inr to) below = nothing_at t n late from to (λ y is ends. absurd (none y is))
 
 -- ---- an object without an inode
 

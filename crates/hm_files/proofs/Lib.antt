@@ -1,6 +1,7 @@
 pub mod ByteLemmas
 mod PieceLemmas
 mod ReadLemmas
+mod NearLemmas
 pub mod SpanLemmas
 mod CloseLemmas
 mod CloseToldLemmas

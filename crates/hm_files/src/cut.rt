@@ -1,10 +1,7 @@
 // Bytes that are cut off a file.
 ghost use Rattle.std.specs.Prelude.{◌≡◌, ◌+◌, ◌*◌, ◌^◌, ◌≤◌, OnOk};
-ghost use Rattle.hm_types.specs.Faults.{HasStoreCause};
-ghost use Rattle.hm_types.specs.Space.{Spends};
-ghost use Rattle.hm_key.specs.Balance.{Balanced, content_of};
-ghost use Rattle.hm_key.specs.Stores.{Keeps};
-ghost use Rattle.hm_cursor.specs.Write.{Writes};
+ghost use Rattle.hm_key.specs.Members.{HasContentCause, InBalance, KeepsFrame, KeepsTold, SpendsAtMost};
+ghost use Rattle.hm_cursor.specs.Write.{WritesStore};
 ghost use Rattle.hm_files.specs.Close.{AreOlderIn};
 ghost use Rattle.hm_files.specs.Put.{CutsBytes, HasBlockRoom, ResizesBytes, block_space};
 
@@ -12,7 +9,7 @@ use crate::block::bytes_base;
 use crate::close::close_between;
 use crate::put::put_block;
 use crate::read::read_all;
-use hm_cursor::first_version;
+use hm_cursor::last_version;
 use hm_key::{ElementStore, Extents, HasElements, HasRoom};
 use hm_types::{BLOCK_BYTES, Counted, Fault, Id, MOST_FILE_BYTES, Obj, Pfs};
 
@@ -31,18 +28,16 @@ pub fn resize_bytes<T: ElementStore + Extents>(
 ) -> Result<(), Fault>
     requires id { 1 ≤ id.0 }
     requires size { new_size ≤ MOST_FILE_BYTES }
-    requires balanced { Balanced (T.elements store.old) (T.extents store.old) }
+    requires balanced { InBalance T.HasElements store.old }
     requires older { AreOlderIn (T.elements store.old) (T.extents store.old)
         pfs.0 obj.0 id.0 0 }
     requires room { HasBlockRoom (T.room store.old) 1 }
-    ensures ok { OnOk result (Writes T.elements T.extents
+    ensures ok { OnOk result (WritesStore T.HasElements
         (ResizesBytes pfs.0 obj.0 id.0 size new_size) store.old store.new) }
-    ensures keeps { Keeps T.elements T.extents store.old store.new result }
-    ensures space { Spends T.room T.free (block_space 1) store.old store.new }
-    ensures borrowed { (T.name store.new ≡ T.name store.old)
-        × (T.frame store.new ≡ T.frame store.old) }
-    ensures cause { HasStoreCause (content_of (T.elements store.old) (T.extents store.old))
-        (T.faults store.old) (T.faults store.new) result }
+    ensures keeps { KeepsTold T.HasElements store.old store.new result }
+    ensures space { SpendsAtMost T.HasElements (block_space 1) store.old store.new }
+    ensures borrowed { KeepsFrame T.Counted store.old store.new }
+    ensures cause { HasContentCause T.HasElements store.old store.new result }
 {
     cut_bytes(store, pfs, obj, size.min(new_size), id)
 }
@@ -57,18 +52,16 @@ pub(crate) fn cut_bytes<T: ElementStore + Extents>(
 ) -> Result<(), Fault>
     requires id { 1 ≤ id.0 }
     requires keep { keep ≤ MOST_FILE_BYTES }
-    requires balanced { Balanced (T.elements store.old) (T.extents store.old) }
+    requires balanced { InBalance T.HasElements store.old }
     requires older { AreOlderIn (T.elements store.old) (T.extents store.old)
         pfs.0 obj.0 id.0 0 }
     requires room { HasBlockRoom (T.room store.old) 1 }
-    ensures ok { OnOk result (Writes T.elements T.extents
+    ensures ok { OnOk result (WritesStore T.HasElements
         (CutsBytes pfs.0 obj.0 id.0 keep) store.old store.new) }
-    ensures keeps { Keeps T.elements T.extents store.old store.new result }
-    ensures space { Spends T.room T.free (block_space 1) store.old store.new }
-    ensures borrowed { (T.name store.new ≡ T.name store.old)
-        × (T.frame store.new ≡ T.frame store.old) }
-    ensures cause { HasStoreCause (content_of (T.elements store.old) (T.extents store.old))
-        (T.faults store.old) (T.faults store.new) result }
+    ensures keeps { KeepsTold T.HasElements store.old store.new result }
+    ensures space { SpendsAtMost T.HasElements (block_space 1) store.old store.new }
+    ensures borrowed { KeepsFrame T.Counted store.old store.new }
+    ensures cause { HasContentCause T.HasElements store.old store.new result }
 {
     let block = BLOCK_BYTES as u64;
     let begin = keep / block * block;
@@ -76,12 +69,12 @@ pub(crate) fn cut_bytes<T: ElementStore + Extents>(
         return close_between(store, pfs, obj, keep + 1, u64::MAX, id);
     }
     close_between(store, pfs, obj, begin + block + 1, u64::MAX, id)?;
-    let at = bytes_base(pfs, obj, keep + 1);
-    if first_version(store, &at, begin + block, id)?.is_none() {
+    let at = bytes_base(pfs, obj, begin + block);
+    let Some(last) = last_version(store, &at, keep + 1, id)? else {
         return Ok(());
-    }
+    };
     let mut bytes = [0; BLOCK_BYTES];
     let front = &mut bytes[..(keep - begin) as usize];
-    read_all(store, pfs, obj, begin, id, front)?;
+    read_all(store, pfs, obj, last.base.key, begin, id, front)?;
     put_block(store, pfs, obj, begin, front, id)
 }

@@ -6,6 +6,7 @@ mod close;
 mod cut;
 mod put;
 mod read;
+mod search;
 mod source;
 mod write;
 

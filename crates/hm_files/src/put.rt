@@ -1,20 +1,9 @@
 // The bytes of one block that are put in place of what it had.
 ghost use Rattle.std.specs.Prelude.{◌≡◌, ◌+◌, ◌*◌, ◌%◌, ◌^◌, ◌<◌, ◌≤◌, Some, OnOk, length};
-ghost use Rattle.hm_types.specs.Faults.{HasStoreCause};
-ghost use Rattle.hm_types.specs.Space.{Spends};
-ghost use Rattle.hm_key.specs.Balance.{Balanced, content_of};
 ghost use Rattle.hm_key.specs.Counts.{bytes_subject, subject_of};
 ghost use Rattle.hm_key.specs.Key.{key_of};
-ghost use Rattle.hm_key.specs.Stores.{Keeps};
-ghost use Rattle.hm_cursor.specs.Write.{
-  FollowWith,
-  HasRoomFor,
-  IsFresh,
-  IsNew,
-  Rewrites,
-  Writes,
-  taken,
-};
+ghost use Rattle.hm_key.specs.Members.{HasContentCause, InBalance, KeepsFrame, KeepsTold, SpendsAtMost};
+ghost use Rattle.hm_cursor.specs.Write.{FollowWith, HasRoomFor, IsFresh, IsNew, Rewrites, taken, WritesStore};
 ghost use Rattle.hm_files.specs.Close.{AreOlderIn};
 ghost use Rattle.hm_files.specs.Put.{HasBlockRoom, PutsBlock, block_space, zone_of};
 
@@ -39,18 +28,16 @@ pub(crate) fn put_block<T: ElementStore + Extents>(
     requires id { 1 ≤ id.0 }
     requires block { (begin % BLOCK_BYTES ≡ 0) × (begin + 2 * BLOCK_BYTES < 2 ^ 64) }
     requires sized { (1 ≤ length bytes.now) × (length bytes.now ≤ BLOCK_BYTES) }
-    requires balanced { Balanced (T.elements store.old) (T.extents store.old) }
+    requires balanced { InBalance T.HasElements store.old }
     requires older { AreOlderIn (T.elements store.old) (T.extents store.old)
         pfs.0 obj.0 id.0 (begin + 1) }
     requires room { HasBlockRoom (T.room store.old) 1 }
-    ensures ok { OnOk result (Writes T.elements T.extents
+    ensures ok { OnOk result (WritesStore T.HasElements
         (PutsBlock pfs.0 obj.0 id.0 begin bytes.now) store.old store.new) }
-    ensures keeps { Keeps T.elements T.extents store.old store.new result }
-    ensures space { Spends T.room T.free (block_space 1) store.old store.new }
-    ensures borrowed { (T.name store.new ≡ T.name store.old)
-        × (T.frame store.new ≡ T.frame store.old) }
-    ensures cause { HasStoreCause (content_of (T.elements store.old) (T.extents store.old))
-        (T.faults store.old) (T.faults store.new) result }
+    ensures keeps { KeepsTold T.HasElements store.old store.new result }
+    ensures space { SpendsAtMost T.HasElements (block_space 1) store.old store.new }
+    ensures borrowed { KeepsFrame T.Counted store.old store.new }
+    ensures cause { HasContentCause T.HasElements store.old store.new result }
 {
     let end = begin + bytes.len() as u64;
     close_between(store, pfs, obj, begin + 1, end - 1, id)?;
@@ -71,22 +58,20 @@ fn put_version<T: ElementStore + Extents>(
     bytes: &[u8],
 ) -> Result<(), Fault>
     requires new { IsNew base.now zone bytes.now }
-    requires balanced { Balanced (T.elements store.old) (T.extents store.old) }
+    requires balanced { InBalance T.HasElements store.old }
     requires fresh { IsFresh (T.elements store.old) (T.extents store.old)
         (subject_of (key_of base.now)) base.now.create }
     requires room { HasRoomFor (T.room store.old) zone bytes.now }
-    ensures ok { OnOk result (Writes T.elements T.extents
+    ensures ok { OnOk result (WritesStore T.HasElements
         (Rewrites (subject_of (key_of base.now)) (Some bytes.now) base.now.create)
         store.old store.new) }
-    ensures follows { OnOk result (Writes T.elements T.extents
+    ensures follows { OnOk result (WritesStore T.HasElements
         (FollowWith (subject_of (key_of base.now)) bytes.now base.now.create)
         store.old store.new) }
-    ensures keeps { Keeps T.elements T.extents store.old store.new result }
-    ensures space { Spends T.room T.free (taken zone bytes.now) store.old store.new }
-    ensures borrowed { (T.name store.new ≡ T.name store.old)
-        × (T.frame store.new ≡ T.frame store.old) }
-    ensures cause { HasStoreCause (content_of (T.elements store.old) (T.extents store.old))
-        (T.faults store.old) (T.faults store.new) result }
+    ensures keeps { KeepsTold T.HasElements store.old store.new result }
+    ensures space { SpendsAtMost T.HasElements (taken zone bytes.now) store.old store.new }
+    ensures borrowed { KeepsFrame T.Counted store.old store.new }
+    ensures cause { HasContentCause T.HasElements store.old store.new result }
 {
     match version_at(store, base, Id(base.create))? {
         Some(old) => renew_version(store, &old.base, base, zone, bytes),

@@ -1,14 +1,14 @@
 // Bytes that are read.
 ghost use Rattle.std.specs.Prelude.{◌≡◌, ◌+◌, ◌^◌, ◌<◌, ◌≤◌, IfOk, IfSome, OnOk, drop, length, min, replicate, take};
 ghost use Rattle.hm_types.specs.Faults.{HasStoreCause};
-ghost use Rattle.hm_key.specs.Balance.{Balanced, IsHeld, content_of, payload_of};
+ghost use Rattle.hm_key.specs.Balance.{IsHeld, payload_of};
 ghost use Rattle.hm_key.specs.Element.{IsInBlock};
-ghost use Rattle.hm_key.specs.Stores.{Same};
+ghost use Rattle.hm_key.specs.Members.{HasContentCause, InBalance, IsSame, KeepsFrame};
 ghost use Rattle.hm_cursor.specs.Told.{OnBalanced};
 ghost use Rattle.hm_files.specs.Bytes.{AreOf, AreRead, AreShown, count_from};
 
 use crate::block::{bytes_base, end_of_block};
-use hm_cursor::first_version;
+use crate::search::first_near;
 use hm_key::{Element, ElementStore, Extents, HasElements, HasRoom};
 use hm_types::{BLOCK_BYTES, Counted, Fault, Id, Obj, Pfs};
 
@@ -16,9 +16,9 @@ use hm_types::{BLOCK_BYTES, Counted, Fault, Id, Obj, Pfs};
 /// how many these are: as many as the buffer has room for, up to the file's size, which its inode
 /// tells. Bytes that no call wrote are zero.
 ///
-/// Each element that shows some of them is found by a search from its place on, besides those that
-/// find the version that counts; elements that are not seen are passed up to the end of the last
-/// byte's block. The faults are those of the store. It takes no memory of its own.
+/// Of each block they are looked for first where the file of that size ends it, and from there down:
+/// that takes a search for each length that the block had up to there by then. The faults are those
+/// of the store. It takes no memory of its own.
 pub fn read_bytes<T: ElementStore + Extents>(
     store: &mut T,
     pfs: Pfs,
@@ -28,46 +28,44 @@ pub fn read_bytes<T: ElementStore + Extents>(
     as_of: Id,
     buffer: &mut [u8],
 ) -> Result<usize, Fault>
-    requires balanced { Balanced (T.elements store.old) (T.extents store.old) }
+    requires balanced { InBalance T.HasElements store.old }
     ensures count { IfOk result (λ count. count ≡ count_from size offset (length buffer.new)) }
     ensures ok { IfOk result (λ count. OnBalanced (T.elements store.old) (T.extents store.old)
         (AreRead as_of.0 pfs.0 obj.0 offset (take count buffer.new))) }
     ensures shown { IfOk result (λ count. OnBalanced (T.elements store.old) (T.extents store.old)
         (AreShown as_of.0 pfs.0 obj.0 size offset (length buffer.new) (take count buffer.new))) }
-    ensures keeps { Same T.elements T.mark T.extents T.room T.free store.old store.new }
-    ensures borrowed { (T.name store.new ≡ T.name store.old)
-        × (T.frame store.new ≡ T.frame store.old) }
-    ensures cause { HasStoreCause (content_of (T.elements store.old) (T.extents store.old))
-        (T.faults store.old) (T.faults store.new) result }
+    ensures keeps { IsSame T.HasElements store.old store.new }
+    ensures borrowed { KeepsFrame T.Counted store.old store.new }
+    ensures cause { HasContentCause T.HasElements store.old store.new result }
 {
     let count = shorter(buffer.len(), size.saturating_sub(offset));
-    read_all(store, pfs, obj, offset, as_of, &mut buffer[..count])?;
+    read_all(store, pfs, obj, size, offset, as_of, &mut buffer[..count])?;
     Ok(count)
 }
 
-/// Fills a buffer with the bytes of a file from an offset on.
+/// Fills a buffer with the bytes of a file from an offset on, whatever its size is: that says where
+/// the bytes of its blocks are looked for first.
 pub(crate) fn read_all<T: ElementStore + Extents>(
     store: &mut T,
     pfs: Pfs,
     obj: Obj,
+    size: u64,
     offset: u64,
     as_of: Id,
     buffer: &mut [u8],
 ) -> Result<(), Fault>
     requires fits { offset + length buffer.old < 2 ^ 64 }
-    requires balanced { Balanced (T.elements store.old) (T.extents store.old) }
+    requires balanced { InBalance T.HasElements store.old }
     ensures ok { OnOk result (OnBalanced (T.elements store.old) (T.extents store.old)
         (AreRead as_of.0 pfs.0 obj.0 offset buffer.new)) }
-    ensures keeps { Same T.elements T.mark T.extents T.room T.free store.old store.new }
-    ensures borrowed { (T.name store.new ≡ T.name store.old)
-        × (T.frame store.new ≡ T.frame store.old) }
-    ensures cause { HasStoreCause (content_of (T.elements store.old) (T.extents store.old))
-        (T.faults store.old) (T.faults store.new) result }
+    ensures keeps { IsSame T.HasElements store.old store.new }
+    ensures borrowed { KeepsFrame T.Counted store.old store.new }
+    ensures cause { HasContentCause T.HasElements store.old store.new result }
 {
     let mut done = 0;
     while done < buffer.len() {
         let at = offset + done as u64;
-        done += read_piece(store, pfs, obj, at, as_of, &mut buffer[done..])?;
+        done += read_piece(store, pfs, obj, size, at, as_of, &mut buffer[done..])?;
     }
     Ok(())
 }
@@ -78,26 +76,26 @@ fn read_piece<T: ElementStore + Extents>(
     store: &mut T,
     pfs: Pfs,
     obj: Obj,
+    size: u64,
     offset: u64,
     as_of: Id,
     buffer: &mut [u8],
 ) -> Result<usize, Fault>
     requires some { 1 ≤ length buffer.old }
     requires fits { offset + length buffer.old < 2 ^ 64 }
-    requires balanced { Balanced (T.elements store.old) (T.extents store.old) }
+    requires balanced { InBalance T.HasElements store.old }
     ensures some { IfOk result (λ count. 1 ≤ count) }
     ensures fits { IfOk result (λ count. count ≤ length buffer.new) }
     ensures ok { IfOk result (λ count. OnBalanced (T.elements store.old) (T.extents store.old)
         (AreRead as_of.0 pfs.0 obj.0 offset (take count buffer.new))) }
-    ensures keeps { Same T.elements T.mark T.extents T.room T.free store.old store.new }
-    ensures borrowed { (T.name store.new ≡ T.name store.old)
-        × (T.frame store.new ≡ T.frame store.old) }
-    ensures cause { HasStoreCause (content_of (T.elements store.old) (T.extents store.old))
-        (T.faults store.old) (T.faults store.new) result }
+    ensures keeps { IsSame T.HasElements store.old store.new }
+    ensures borrowed { KeepsFrame T.Counted store.old store.new }
+    ensures cause { HasContentCause T.HasElements store.old store.new result }
 {
     let last = end_of_block(offset + (buffer.len() as u64 - 1));
     let at = bytes_base(pfs, obj, offset + 1);
-    match first_version(store, &at, last, as_of)? {
+    let near = size.min(end_of_block(offset)).max(at.key);
+    match first_near(store, &at, near, last, as_of)? {
         Some(element) => read_element(store, &element, offset, buffer),
         None => {
             clear(buffer);
@@ -122,9 +120,8 @@ fn read_element<T: Extents>(
     ensures ok { IfSome (T.extents store.old) (λ xs. IfOk result (λ count.
         AreOf element.now.base.key element.now.len (payload_of xs element.now) offset
         (take count buffer.new))) }
-    ensures keeps { Same T.elements T.mark T.extents T.room T.free store.old store.new }
-    ensures borrowed { (T.name store.new ≡ T.name store.old)
-        × (T.frame store.new ≡ T.frame store.old) }
+    ensures keeps { IsSame T.HasElements store.old store.new }
+    ensures borrowed { KeepsFrame T.Counted store.old store.new }
     ensures cause { HasStoreCause (T.extents store.old)
         (T.faults store.old) (T.faults store.new) result }
 {
@@ -153,9 +150,8 @@ fn read_payload_from<T: Extents>(
     requires held { IfSome (T.extents store.old) (λ xs. IsHeld xs element.now) }
     ensures ok { IfSome (T.extents store.old) (λ xs. OnOk result
         (buffer.new ≡ take (length buffer.old) (drop skip (payload_of xs element.now)))) }
-    ensures keeps { Same T.elements T.mark T.extents T.room T.free store.old store.new }
-    ensures borrowed { (T.name store.new ≡ T.name store.old)
-        × (T.frame store.new ≡ T.frame store.old) }
+    ensures keeps { IsSame T.HasElements store.old store.new }
+    ensures borrowed { KeepsFrame T.Counted store.old store.new }
     ensures cause { HasStoreCause (T.extents store.old)
         (T.faults store.old) (T.faults store.new) result }
 {

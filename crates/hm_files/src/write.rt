@@ -1,15 +1,12 @@
 // Bytes that are written into a file.
-ghost use Rattle.std.specs.Prelude.{◌≡◌, ◌+◌, ◌*◌, ◌/◌, ◌^◌, ◌<◌, ◌≤◌, ◌++◌, ◌-◌, OnOk, drop, length, replicate, take};
-ghost use Rattle.hm_types.specs.Faults.{HasStoreCause};
-ghost use Rattle.hm_types.specs.Space.{Spends};
-ghost use Rattle.hm_key.specs.Balance.{Balanced, content_of};
-ghost use Rattle.hm_key.specs.Stores.{Keeps};
-ghost use Rattle.hm_cursor.specs.Write.{Writes};
+ghost use Rattle.std.specs.Prelude.{◌≡◌, ◌+◌, ◌*◌, ◌/◌, ◌^◌, ◌<◌, ◌≤◌, ◌++◌, ◌-◌, OnOk, drop, length, replicate};
+ghost use Rattle.std.specs.Prelude.{take};
+ghost use Rattle.hm_key.specs.Members.{HasContentCause, InBalance, KeepsFrame, KeepsTold, SpendsAtMost};
+ghost use Rattle.hm_cursor.specs.Write.{WritesStore};
 ghost use Rattle.hm_files.specs.Close.{AreOlderIn};
 ghost use Rattle.hm_files.specs.Put.{HasBlockRoom, block_space};
 ghost use Rattle.hm_files.specs.Source.{IsSource, bytes_of};
-ghost use Rattle.hm_files.specs.Write.{ClearsWay, PutsBefore, PutsPiece, WritesBytes};
-ghost use Rattle.hm_files.specs.Write.{block_count, block_start};
+ghost use Rattle.hm_files.specs.Write.{ClearsWay, PutsBefore, PutsPiece, WritesBytes, block_count, block_start};
 
 use crate::close::close_between;
 use crate::cut::cut_bytes;
@@ -39,20 +36,18 @@ pub fn write_bytes<T: ElementStore + Extents>(
     requires id { 1 ≤ id.0 }
     requires some { 1 ≤ length bytes.now }
     requires few { offset + length bytes.now ≤ MOST_FILE_BYTES }
-    requires balanced { Balanced (T.elements store.old) (T.extents store.old) }
+    requires balanced { InBalance T.HasElements store.old }
     requires older { AreOlderIn (T.elements store.old) (T.extents store.old)
         pfs.0 obj.0 id.0 0 }
     requires room { HasBlockRoom (T.room store.old)
         (block_count offset (offset + length bytes.now) + 1) }
-    ensures ok { OnOk result (Writes T.elements T.extents
+    ensures ok { OnOk result (WritesStore T.HasElements
         (WritesBytes pfs.0 obj.0 id.0 size offset bytes.now) store.old store.new) }
-    ensures keeps { Keeps T.elements T.extents store.old store.new result }
-    ensures space { Spends T.room T.free
+    ensures keeps { KeepsTold T.HasElements store.old store.new result }
+    ensures space { SpendsAtMost T.HasElements
         (block_space (block_count offset (offset + length bytes.now) + 1)) store.old store.new }
-    ensures borrowed { (T.name store.new ≡ T.name store.old)
-        × (T.frame store.new ≡ T.frame store.old) }
-    ensures cause { HasStoreCause (content_of (T.elements store.old) (T.extents store.old))
-        (T.faults store.old) (T.faults store.new) result }
+    ensures borrowed { KeepsFrame T.Counted store.old store.new }
+    ensures cause { HasContentCause T.HasElements store.old store.new result }
 {
     put_source(store, pfs, obj, size, offset, Source::Bytes(bytes), id)
 }
@@ -72,20 +67,18 @@ pub fn fill_bytes<T: ElementStore + Extents>(
     requires id { 1 ≤ id.0 }
     requires some { 1 ≤ count }
     requires few { offset + count ≤ MOST_FILE_BYTES }
-    requires balanced { Balanced (T.elements store.old) (T.extents store.old) }
+    requires balanced { InBalance T.HasElements store.old }
     requires older { AreOlderIn (T.elements store.old) (T.extents store.old)
         pfs.0 obj.0 id.0 0 }
     requires room { HasBlockRoom (T.room store.old)
         (block_count offset (offset + count) + 1) }
-    ensures ok { OnOk result (Writes T.elements T.extents
+    ensures ok { OnOk result (WritesStore T.HasElements
         (WritesBytes pfs.0 obj.0 id.0 size offset (replicate count byte)) store.old store.new) }
-    ensures keeps { Keeps T.elements T.extents store.old store.new result }
-    ensures space { Spends T.room T.free
+    ensures keeps { KeepsTold T.HasElements store.old store.new result }
+    ensures space { SpendsAtMost T.HasElements
         (block_space (block_count offset (offset + count) + 1)) store.old store.new }
-    ensures borrowed { (T.name store.new ≡ T.name store.old)
-        × (T.frame store.new ≡ T.frame store.old) }
-    ensures cause { HasStoreCause (content_of (T.elements store.old) (T.extents store.old))
-        (T.faults store.old) (T.faults store.new) result }
+    ensures borrowed { KeepsFrame T.Counted store.old store.new }
+    ensures cause { HasContentCause T.HasElements store.old store.new result }
 {
     let block = [byte; BLOCK_BYTES];
     let source = Source::Filled(&block, count as usize);
@@ -106,20 +99,18 @@ fn put_source<T: ElementStore + Extents>(
     requires some { 1 ≤ length (bytes_of source) }
     requires few { offset + length (bytes_of source) ≤ MOST_FILE_BYTES }
     requires source { IsSource source }
-    requires balanced { Balanced (T.elements store.old) (T.extents store.old) }
+    requires balanced { InBalance T.HasElements store.old }
     requires older { AreOlderIn (T.elements store.old) (T.extents store.old)
         pfs.0 obj.0 id.0 0 }
     requires room { HasBlockRoom (T.room store.old)
         (block_count offset (offset + length (bytes_of source)) + 1) }
-    ensures ok { OnOk result (Writes T.elements T.extents
+    ensures ok { OnOk result (WritesStore T.HasElements
         (WritesBytes pfs.0 obj.0 id.0 size offset (bytes_of source.entry)) store.old store.new) }
-    ensures keeps { Keeps T.elements T.extents store.old store.new result }
-    ensures space { Spends T.room T.free
+    ensures keeps { KeepsTold T.HasElements store.old store.new result }
+    ensures space { SpendsAtMost T.HasElements
         (block_space (block_count offset (offset + length (bytes_of source.entry)) + 1)) store.old store.new }
-    ensures borrowed { (T.name store.new ≡ T.name store.old)
-        × (T.frame store.new ≡ T.frame store.old) }
-    ensures cause { HasStoreCause (content_of (T.elements store.old) (T.extents store.old))
-        (T.faults store.old) (T.faults store.new) result }
+    ensures borrowed { KeepsFrame T.Counted store.old store.new }
+    ensures cause { HasContentCause T.HasElements store.old store.new result }
 {
     if offset + source.len() as u64 <= size {
         return put_pieces(store, pfs, obj, size, offset, source, id);
@@ -139,18 +130,16 @@ fn clear_way<T: ElementStore + Extents>(
 ) -> Result<(), Fault>
     requires id { 1 ≤ id.0 }
     requires few { (size ≤ MOST_FILE_BYTES) × (offset ≤ MOST_FILE_BYTES) }
-    requires balanced { Balanced (T.elements store.old) (T.extents store.old) }
+    requires balanced { InBalance T.HasElements store.old }
     requires older { AreOlderIn (T.elements store.old) (T.extents store.old)
         pfs.0 obj.0 id.0 0 }
     requires room { HasBlockRoom (T.room store.old) 1 }
-    ensures ok { OnOk result (Writes T.elements T.extents
+    ensures ok { OnOk result (WritesStore T.HasElements
         (ClearsWay pfs.0 obj.0 id.0 size offset) store.old store.new) }
-    ensures keeps { Keeps T.elements T.extents store.old store.new result }
-    ensures space { Spends T.room T.free (block_space 1) store.old store.new }
-    ensures borrowed { (T.name store.new ≡ T.name store.old)
-        × (T.frame store.new ≡ T.frame store.old) }
-    ensures cause { HasStoreCause (content_of (T.elements store.old) (T.extents store.old))
-        (T.faults store.old) (T.faults store.new) result }
+    ensures keeps { KeepsTold T.HasElements store.old store.new result }
+    ensures space { SpendsAtMost T.HasElements (block_space 1) store.old store.new }
+    ensures borrowed { KeepsFrame T.Counted store.old store.new }
+    ensures cause { HasContentCause T.HasElements store.old store.new result }
 {
     let block = BLOCK_BYTES as u64;
     if size < offset / block * block {
@@ -174,20 +163,18 @@ fn put_pieces<T: ElementStore + Extents>(
     requires some { 1 ≤ length (bytes_of source) }
     requires few { offset + length (bytes_of source) ≤ MOST_FILE_BYTES }
     requires source { IsSource source }
-    requires balanced { Balanced (T.elements store.old) (T.extents store.old) }
+    requires balanced { InBalance T.HasElements store.old }
     requires older { AreOlderIn (T.elements store.old) (T.extents store.old)
         pfs.0 obj.0 id.0 (block_start offset + 1) }
     requires room { HasBlockRoom (T.room store.old)
         (block_count offset (offset + length (bytes_of source))) }
-    ensures ok { OnOk result (Writes T.elements T.extents (PutsBefore pfs.0 obj.0 id.0 size
+    ensures ok { OnOk result (WritesStore T.HasElements (PutsBefore pfs.0 obj.0 id.0 size
         offset (bytes_of source.entry) ((offset + length (bytes_of source.entry) - 1) / BLOCK_BYTES + 1)) store.old store.new) }
-    ensures keeps { Keeps T.elements T.extents store.old store.new result }
-    ensures space { Spends T.room T.free
+    ensures keeps { KeepsTold T.HasElements store.old store.new result }
+    ensures space { SpendsAtMost T.HasElements
         (block_space (block_count offset (offset + length (bytes_of source.entry)))) store.old store.new }
-    ensures borrowed { (T.name store.new ≡ T.name store.old)
-        × (T.frame store.new ≡ T.frame store.old) }
-    ensures cause { HasStoreCause (content_of (T.elements store.old) (T.extents store.old))
-        (T.faults store.old) (T.faults store.new) result }
+    ensures borrowed { KeepsFrame T.Counted store.old store.new }
+    ensures cause { HasContentCause T.HasElements store.old store.new result }
 {
     let block = BLOCK_BYTES as u64;
     let end = offset + source.len() as u64;
@@ -225,18 +212,16 @@ pub(crate) fn write_piece<T: ElementStore + Extents>(
     requires some { 1 ≤ length piece.now }
     requires within { at + length piece.now ≤ block_start at + BLOCK_BYTES }
     requires few { at + length piece.now ≤ MOST_FILE_BYTES }
-    requires balanced { Balanced (T.elements store.old) (T.extents store.old) }
+    requires balanced { InBalance T.HasElements store.old }
     requires older { AreOlderIn (T.elements store.old) (T.extents store.old)
         pfs.0 obj.0 id.0 (block_start at + 1) }
     requires room { HasBlockRoom (T.room store.old) 1 }
-    ensures ok { OnOk result (Writes T.elements T.extents
+    ensures ok { OnOk result (WritesStore T.HasElements
         (PutsPiece pfs.0 obj.0 id.0 size at piece.now) store.old store.new) }
-    ensures keeps { Keeps T.elements T.extents store.old store.new result }
-    ensures space { Spends T.room T.free (block_space 1) store.old store.new }
-    ensures borrowed { (T.name store.new ≡ T.name store.old)
-        × (T.frame store.new ≡ T.frame store.old) }
-    ensures cause { HasStoreCause (content_of (T.elements store.old) (T.extents store.old))
-        (T.faults store.old) (T.faults store.new) result }
+    ensures keeps { KeepsTold T.HasElements store.old store.new result }
+    ensures space { SpendsAtMost T.HasElements (block_space 1) store.old store.new }
+    ensures borrowed { KeepsFrame T.Counted store.old store.new }
+    ensures cause { HasContentCause T.HasElements store.old store.new result }
 {
     let begin = at / BLOCK_BYTES as u64 * BLOCK_BYTES as u64;
     if piece.len() == BLOCK_BYTES {
@@ -249,7 +234,7 @@ pub(crate) fn write_piece<T: ElementStore + Extents>(
     let mut bytes = [0; BLOCK_BYTES];
     let front = &mut bytes[..(end - begin) as usize];
     let shown = shorter(front.len(), size.saturating_sub(begin));
-    read_all(store, pfs, obj, begin, id, &mut front[..shown])?;
+    read_all(store, pfs, obj, size, begin, id, &mut front[..shown])?;
     lay_over(front, inner, piece);
     put_block(store, pfs, obj, begin, front, id)
 }

@@ -1,6 +1,7 @@
 // What a flush does to the disk beside its header changes.
 ghost use Rattle.std.specs.Prelude.{◌≡◌, ◌<◌, ◌≤◌, ◌+◌, ◌*◌, IfSome, OnOk, OnErr, length, slice_index};
-ghost use Rattle.hm_types.specs.declared.limits.TheConstants.{BIGBLOCK_BYTES, MOST_BIGBLOCKS, PAGE_BYTES, UNDO_ENTRIES, UNDO_ENTRY_BYTES};
+ghost use Rattle.hm_types.specs.declared.limits.TheConstants.{BIGBLOCK_BYTES, MOST_BIGBLOCKS, PAGE_BYTES};
+ghost use Rattle.hm_types.specs.declared.limits.TheConstants.{UNDO_ENTRIES, UNDO_ENTRY_BYTES};
 ghost use Rattle.hm_types.specs.Faults.{HasCause};
 ghost use Rattle.hm_types.specs.Offset.{byte_of};
 ghost use Rattle.hm_types.specs.Told.{BothTell};

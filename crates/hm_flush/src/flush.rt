@@ -13,7 +13,8 @@ ghost use Rattle.hm_flush.specs.Device.{IsSaved};
 ghost use Rattle.hm_flush.specs.Flush.{IsFlush, IsGroupOf, armed_header, begun_flush, due_change, committed_header, is_last};
 ghost use Rattle.hm_flush.specs.Flush.{next_generation, header_to_write, tried};
 ghost use Rattle.hm_flush.specs.Group.{group_of};
-ghost use Rattle.hm_flush.specs.Stages.{IsNumbered, DueStageMade, armed, asks, committed, due_stage, moved_flush, range_of, undo_range};
+ghost use Rattle.hm_flush.specs.Stages.{IsNumbered, DueStageMade, armed, asks, committed};
+ghost use Rattle.hm_flush.specs.Stages.{due_stage, moved_flush, range_of, undo_range};
 
 use crate::change::{Change, change_header};
 use crate::device::{place_page, save_page};

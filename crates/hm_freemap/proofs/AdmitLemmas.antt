@@ -11,8 +11,8 @@ use Rattle.hm_types.specs.References.{pool}
 use Rattle.hm_types.specs.Space.{names_zone, reserve_of, needed}
 use Rattle.hm_types.specs.declared.zone.TheConstants.{TREE_ZONE, SMALL_ZONE}
 use Rattle.hm_types.specs.declared.zones.Zones.{Zones}
-use Rattle.hm_freemap.specs.Admit.{IsAdmitted, does_lack, lacking, lacking_before}
-use Rattle.hm_freemap.specs.Renew.{AreFresh, count_first, count_of, lacks_at}
+use Rattle.hm_freemap.specs.Admit.{IsAdmitted, does_lack, which_lack, lacking_before}
+use Rattle.hm_freemap.specs.Renew.{AreFresh, count_first, lacking_count, lacks_at}
 use Rattle.hm_freemap.specs.Scan.{Finds}
 use Rattle.hm_freemap.specs.Stand.{Maps, room_in}
 use Rattle.hm_freemap.specs.declared.scan.Found.{Found}
@@ -101,7 +101,7 @@ found_fresh bigblocks test limit many found finds enough few = record {
       (passes_at test (first_pool bigblocks) (bigblocks - first_pool bigblocks) i (inside_list i low))
 
 -- the number of zones that lack room
-pub needed_is : (zones : Zones) (room : ℕ → ℕ) → needed zones room ≡ count_of (lacking zones room)
+pub needed_is : (zones : Zones) (room : ℕ → ℕ) → needed zones room ≡ lacking_count (which_lack zones room)
 needed_is zones room =
     let a = does_lack zones room 8 in
     let b = does_lack zones room 9 in
@@ -137,7 +137,7 @@ named_zone zones zone names = ⊎_elim
       unnamed : zone ≢ 8 → zone ≢ 9 → zone ≢ 10 → zone ≢ 11 → names_zone zones zone ≡ false
       unnamed a b c d = rw (other_test zone 8 a, other_test zone 9 b, other_test zone 10 c, other_test zone 11 d) refl
 
-pub lacks_is : (zones : Zones) (room : ℕ → ℕ) (j : ℕ) → j < 4 → lacks_at (lacking zones room) j ≡ does_lack zones room (TREE_ZONE + j)
+pub lacks_is : (zones : Zones) (room : ℕ → ℕ) (j : ℕ) → j < 4 → lacks_at (which_lack zones room) j ≡ does_lack zones room (TREE_ZONE + j)
 lacks_is zones room zero low = refl
 lacks_is zones room (suc zero) low = refl
 lacks_is zones room (suc (suc zero)) low = refl
@@ -145,21 +145,21 @@ lacks_is zones room (suc (suc (suc zero))) low = refl
 lacks_is zones room (suc (suc (suc (suc j)))) low = absurd (omega arith)
 
 -- how many of the first of them do
-pub before_is : (zones : Zones) (room : ℕ → ℕ) (k : ℕ) → k < 4 → count_first (lacking zones room) k ≡ lacking_before zones room k
+pub before_is : (zones : Zones) (room : ℕ → ℕ) (k : ℕ) → k < 4 → count_first (which_lack zones room) k ≡ lacking_before zones room k
 before_is zones room zero low = refl
 before_is zones room (suc zero) low = refl
 before_is zones room (suc (suc zero)) low = refl
 before_is zones room (suc (suc (suc zero))) low = refl
 before_is zones room (suc (suc (suc (suc k)))) low = absurd (omega arith)
 
-none_lacks : (lack : List Bool) (j : ℕ) → j < length lack → count_of lack ≡ 0 → lacks_at lack j ≡ false
+none_lacks : (lack : List Bool) (j : ℕ) → j < length lack → lacking_count lack ≡ 0 → lacks_at lack j ≡ false
 none_lacks lack j low none = fails (lacks_at lack j) (λ is.
     let one : bit (lacks_at lack j) ≡ 1 = ap bit is in
     absurd (omega (arith, first_more lack j low, first_few lack (j + 1), none, one)))
 
 -- no zone lacks room
-pub admitted_none : (bigblocks : ℕ) (zones : Zones) (held : ℕ) (append : List ℕ) (maps : Maps) → count_of (lacking zones (room_in append maps.current)) ≡ 0
-    → IsAdmitted bigblocks zones held append append maps maps.current
+pub admitted_none : (bigblocks : ℕ) (zones : Zones) (held : ℕ) (append : List ℕ) (maps : Maps)
+    → lacking_count (which_lack zones (room_in append maps.current)) ≡ 0 → IsAdmitted bigblocks zones held append append maps maps.current
 admitted_none bigblocks zones held append maps none = record {
   pages = λ at other. refl;
   admits = record {
@@ -190,4 +190,4 @@ admitted_none bigblocks zones held append maps none = record {
 
   has_room : (k : ℕ) → k < 4 → does_lack zones (room_in append maps.current) (TREE_ZONE + k) ≡ false
   has_room k low =
-      sym (lacks_is zones (room_in append maps.current) k low) ∙ none_lacks (lacking zones (room_in append maps.current)) k low none
+      sym (lacks_is zones (room_in append maps.current) k low) ∙ none_lacks (which_lack zones (room_in append maps.current)) k low none

@@ -13,10 +13,10 @@ use Rattle.hm_types.specs.declared.limits.TheConstants.{BIGBLOCK_BYTES, MOST_BIG
 use Rattle.hm_types.specs.declared.zone.TheConstants.{TREE_ZONE}
 use Rattle.hm_types.specs.declared.zones.Zones.{Zones}
 use Rattle.hm_fields.specs.Pages.{PageMap}
-use Rattle.hm_freemap.specs.Admit.{IsAdmitted, IsFreeAt, BeginsLowest, does_lack, lacking, lacking_before}
+use Rattle.hm_freemap.specs.Admit.{IsAdmitted, IsFreeAt, BeginsLowest, does_lack, which_lack, lacking_before}
 use Rattle.hm_freemap.specs.Extents.{Moves, with_current}
 use Rattle.hm_freemap.specs.Places.{page_of}
-use Rattle.hm_freemap.specs.Renew.{AreFresh, Renewed, Renewing, count_first, count_of, lacks_at}
+use Rattle.hm_freemap.specs.Renew.{AreFresh, Renewed, Renewing, count_first, lacking_count, lacks_at}
 use Rattle.hm_freemap.specs.Scan.{Finds}
 use Rattle.hm_freemap.specs.Space.{free_at, room_at, space_of}
 use Rattle.hm_freemap.specs.Stand.{Maps, WhereTold, append_of, entry_of, entry_part, free_by, is_free_by, is_handed_out, room_in}
@@ -42,28 +42,28 @@ room_most append map zone = by_test (is_handed_out zone) where
 
 module _ (bigblocks : ℕ) (zones : Zones) (held : ℕ) (append append' : List ℕ) (maps : Maps) (now : PageMap) (lack : List Bool) (wanted : ℕ) (found : Found)
     (few : bigblocks ≤ MOST_BIGBLOCKS)
-    (is : lack ≡ lacking zones (room_in append maps.current))
-    (sized : wanted ≡ min (count_of lack + held) (2 ^ 32 - 1))
-    (four : count_of lack ≤ 4)
+    (is : lack ≡ which_lack zones (room_in append maps.current))
+    (sized : wanted ≡ min (lacking_count lack + held) (2 ^ 32 - 1))
+    (four : lacking_count lack ≤ 4)
     (enough : wanted ≤ found.count)
     (finds : Finds (is_free_by append maps) wanted (pool bigblocks) found)
-    (renewing : Renewing lack found.first 4 (count_of lack) append append' maps.current now) where
+    (renewing : Renewing lack found.first 4 (lacking_count lack) append append' maps.current now) where
   room : ℕ → ℕ
   room = room_in append maps.current
 
-  total : needed zones (room_in append maps.current) ≡ count_of lack
-  total = needed_is zones (room_in append maps.current) ∙ ap count_of (sym is)
+  total : needed zones (room_in append maps.current) ≡ lacking_count lack
+  total = needed_is zones (room_in append maps.current) ∙ ap lacking_count (sym is)
 
-  there : count_of lack + held ≤ free_by bigblocks append maps
+  there : lacking_count lack + held ≤ free_by bigblocks append maps
   there =
       let most = count_by-le-length (is_free_by append maps) (pool bigblocks) in
       let long = length-range_with_len (first_pool bigblocks) (bigblocks - first_pool bigblocks) in
       omega (arith, sized, enough, finds.count, most, long, few)
 
-  fresh : AreFresh bigblocks (is_free_by append maps) found.first (count_of lack)
-  fresh = found_fresh bigblocks (is_free_by append maps) wanted (count_of lack) found finds (omega (arith, sized, enough, four)) four
+  fresh : AreFresh bigblocks (is_free_by append maps) found.first (lacking_count lack)
+  fresh = found_fresh bigblocks (is_free_by append maps) wanted (lacking_count lack) found finds (omega (arith, sized, enough, four)) four
 
-  renewed : Renewed bigblocks lack found.first 4 (count_of lack) append append' maps (with_current now maps)
+  renewed : Renewed bigblocks lack found.first 4 (lacking_count lack) append append' maps (with_current now maps)
   renewed = renewing.each bigblocks maps.committed maps.frozen fresh
 
   reserved : (zone : ℕ) → names_zone zones zone ≡ true → reserve_of zone ≤ room_in append' now zone
@@ -105,7 +105,7 @@ module _ (bigblocks : ℕ) (zones : Zones) (held : ℕ) (append append' : List �
       ap (λ (l : List Bool). count_first l k) is ∙ before_is zones (room_in append maps.current) k low in
       let one : bit (lacks_at lack k) ≡ 1 = ap bit here in
       let more = first_more lack k (omega (arith, low, ap length is)) in
-      let inside : count_first lack k < count_of lack = omega (arith, more, first_few lack (k + 1), one) in
+      let inside : count_first lack k < lacking_count lack = omega (arith, more, first_few lack (k + 1), one) in
       subst (λ (b : ℕ). IsFreeAt bigblocks (is_free_by append maps) (lacking_before zones (room_in append maps.current) k) b)
       (sym (renewed.begun k low low here))
       (subst (λ (n : ℕ). IsFreeAt bigblocks (is_free_by append maps) n (slice_index found.first (count_first lack k)))
@@ -164,10 +164,10 @@ module _ (bigblocks : ℕ) (zones : Zones) (held : ℕ) (append append' : List �
 -- the same where pages are told
 pub told_some : (bigblocks : ℕ) (zones : Zones) (held : ℕ) (append append' : List ℕ) (c f old new : Option PageMap) (lack : List Bool) (wanted : ℕ)
     (found : Found)
-    → bigblocks ≤ MOST_BIGBLOCKS → IfSome old (λ map. lack ≡ lacking zones (room_in append map)) → wanted ≡ min (count_of lack + held) (2 ^ 32 - 1)
-    → count_of lack ≤ 4
+    → bigblocks ≤ MOST_BIGBLOCKS → IfSome old (λ map. lack ≡ which_lack zones (room_in append map)) → wanted ≡ min (lacking_count lack + held) (2 ^ 32 - 1)
+    → lacking_count lack ≤ 4
     → wanted ≤ found.count → WhereTold c f old (λ maps. Finds (is_free_by append maps) wanted (pool bigblocks) found)
-    → BothTell old new (Renewing lack found.first 4 (count_of lack) append append') → Moves c f old new (IsAdmitted bigblocks zones held append append')
+    → BothTell old new (Renewing lack found.first 4 (lacking_count lack) append append') → Moves c f old new (IsAdmitted bigblocks zones held append append')
 told_some bigblocks zones held append append' None f old new lack wanted found few is sized four enough finds renewing = tt
 told_some bigblocks zones held append append' (Some c) None old new lack wanted found few is sized four enough finds renewing = tt
 told_some bigblocks zones held append append' (Some c) (Some f) None new lack wanted found few is sized four enough finds renewing = tt
@@ -177,12 +177,13 @@ told_some bigblocks zones held append append' (Some c) (Some f) (Some old) (Some
     enough finds renewing
 
 pub told_none : (bigblocks : ℕ) (zones : Zones) (held : ℕ) (append : List ℕ) (c f old new : Option PageMap) (lack : List Bool) → new ≡ old
-    → IfSome old (λ map. lack ≡ lacking zones (room_in append map)) → count_of lack ≡ 0 → Moves c f old new (IsAdmitted bigblocks zones held append append)
+    → IfSome old (λ map. lack ≡ which_lack zones (room_in append map)) → lacking_count lack ≡ 0
+    → Moves c f old new (IsAdmitted bigblocks zones held append append)
 told_none bigblocks zones held append c f old new lack same is none = rw same (by_told c f old is) where
-  by_told : (c f o : Option PageMap) → IfSome o (λ map. lack ≡ lacking zones (room_in append map))
+  by_told : (c f o : Option PageMap) → IfSome o (λ map. lack ≡ which_lack zones (room_in append map))
       → Moves c f o o (IsAdmitted bigblocks zones held append append)
   by_told None f o is = tt
   by_told (Some c) None o is = tt
   by_told (Some c) (Some f) None is = tt
   by_told (Some c) (Some f) (Some map) is =
-      admitted_none bigblocks zones held append (record { committed = c; frozen = f; current = map }) (ap count_of (sym is) ∙ none)
+      admitted_none bigblocks zones held append (record { committed = c; frozen = f; current = map }) (ap lacking_count (sym is) ∙ none)

@@ -13,7 +13,7 @@ use Rattle.hm_types.specs.Space.{rounded}
 use Rattle.hm_types.specs.declared.limits.TheConstants.{BIGBLOCK_BYTES}
 use Rattle.hm_types.specs.declared.zone.TheConstants.{TREE_ZONE}
 use Rattle.hm_fields.specs.Pages.{PageMap}
-use Rattle.hm_freemap.specs.Admit.{begun}
+use Rattle.hm_freemap.specs.Admit.{entry_begun}
 use Rattle.hm_freemap.specs.Entry.{IsPoolEntry}
 use Rattle.hm_freemap.specs.Extents.{with_current}
 use Rattle.hm_freemap.specs.Stand.{Maps, StandBy, IsBelow, AreAppended, AreDistinct, AreOfPool, EntryPut, all_of, home_of, entry_of, room_in}
@@ -121,7 +121,7 @@ zero_unit zone = by_test (nat_eq zone TREE_ZONE) where
 
 module _ (bigblocks : ℕ) (append : List ℕ) (maps : Maps) (four : length append ≡ 4)
     (k : ℕ) (low : k < 4) (block : ℕ) (inside : IsPool bigblocks block) (is : is_free_by append maps block ≡ true)
-    (now : PageMap) (put : EntryPut block (begun (TREE_ZONE + k)) maps.current now) where
+    (now : PageMap) (put : EntryPut block (entry_begun (TREE_ZONE + k)) maps.current now) where
   abbrev after : List ℕ
   after = slice_set append k block
 
@@ -145,7 +145,7 @@ module _ (bigblocks : ℕ) (append : List ℕ) (maps : Maps) (four : length appe
         end = omega (arith, below.end, ap (λ (e : Entry). e.append_off) same);
       }
 
-  begun_entry : IsPoolEntry (begun (TREE_ZONE + k))
+  begun_entry : IsPoolEntry (entry_begun (TREE_ZONE + k))
   begun_entry = inl (record {
     zone = (omega arith, omega arith);
     append = omega arith;
@@ -203,7 +203,7 @@ module _ (bigblocks : ℕ) (append : List ℕ) (maps : Maps) (four : length appe
     begun_stands = record {
       committed = stand.committed;
       frozen = stand.frozen;
-      current = tells_after block (begun (TREE_ZONE + k)) maps.current now put bigblocks states.current states.current
+      current = tells_after block (entry_begun (TREE_ZONE + k)) maps.current now put bigblocks states.current states.current
           begun_entry begun_free (λ b other. refl) stand.current;
       appended = begun_appended stand.appended;
       placed = stand.placed;
@@ -218,7 +218,7 @@ module _ (bigblocks : ℕ) (append : List ℕ) (maps : Maps) (four : length appe
       let c = is_clear_at maps.committed x in
       let f = is_clear_at maps.frozen x in
       ap (λ (b : Bool). not b && (c && (f && is_clear_at now x))) (set_same append k block x (λ e. other (sym e)) (λ e. apart (sym e)))
-      ∙ ap (λ (b : Bool). not (is_append append x) && (c && (f && b))) (clear_other maps block (begun (TREE_ZONE + k)) now put x other)
+      ∙ ap (λ (b : Bool). not (is_append append x) && (c && (f && b))) (clear_other maps block (entry_begun (TREE_ZONE + k)) now put x other)
 
   gone : is_free_by after (with_current now maps) block ≡ false
   gone = not_free_by after (with_current now maps) block (set_has append k block (omega (arith, four)))
@@ -279,7 +279,7 @@ module _ (bigblocks : ℕ) (append : List ℕ) (maps : Maps) (four : length appe
   pub room_begun : room_in (slice_set append k block) now (TREE_ZONE + k) ≡ BIGBLOCK_BYTES
   room_begun =
       let place : TREE_ZONE + k - TREE_ZONE ≡ k = omega arith in
-      let here : entry_of now (append_of after (TREE_ZONE + k)) ≡ begun (TREE_ZONE + k) =
+      let here : entry_of now (append_of after (TREE_ZONE + k)) ≡ entry_begun (TREE_ZONE + k) =
       ap (λ (j : ℕ). entry_of now (slice_index after j)) place ∙ ap (entry_of now) at_place ∙ put.put in
       let handed = handed_out (TREE_ZONE + k) (omega arith) (omega arith) in
       ap (λ (e : Entry). cond (is_handed_out (TREE_ZONE + k)) (BIGBLOCK_BYTES - e.append_off) 0) here ∙ ap (λ (b : Bool). cond b (BIGBLOCK_BYTES - 0) 0) handed

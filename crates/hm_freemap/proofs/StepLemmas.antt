@@ -8,8 +8,8 @@ use Rattle.hm_types.specs.Offset.{zone_of}
 use Rattle.hm_types.specs.Told.{BothTell}
 use Rattle.hm_types.specs.declared.zone.TheConstants.{TREE_ZONE}
 use Rattle.hm_fields.specs.Pages.{PageMap}
-use Rattle.hm_freemap.specs.Admit.{begun, free_before}
-use Rattle.hm_freemap.specs.Renew.{Begins, Renewing, count_first, count_of, lacks_at, maps_of}
+use Rattle.hm_freemap.specs.Admit.{entry_begun, free_before}
+use Rattle.hm_freemap.specs.Renew.{Begins, Renewing, count_first, lacking_count, lacks_at, maps_of_states}
 use Rattle.hm_freemap.specs.Stand.{EntryPut, is_free_by, is_whole_block, room_in}
 use Rattle.hm_freemap.specs.declared.entry.Entry.{Entry}
 use Rattle.hm_freemap.proofs.CountLemmas.{bit}
@@ -17,7 +17,7 @@ use Rattle.hm_freemap.proofs.MapsLemmas.{clear_block, clear_is_free, is_clear_at
 use Rattle.hm_freemap.proofs.PlaceLemmas.{page_zone}
 use Rattle.hm_freemap.proofs.RenewLemmas.{set_none, begun_distinct, begun_pool, begun_stands, no_more, one_less, room_begun, room_other}
 
-pub first_few : (lack : List Bool) (k : ℕ) → count_first lack k ≤ count_of lack
+pub first_few : (lack : List Bool) (k : ℕ) → count_first lack k ≤ lacking_count lack
 first_few lack k = sum_by-take-le (λ lacks. cond lacks 1 0) lack k
 
 pub first_more : (lack : List Bool) (k : ℕ) → k < length lack → count_first lack (k + 1) ≡ count_first lack k + bit (lacks_at lack k)
@@ -39,7 +39,7 @@ renewing_none lack fresh append map four = record {
     distinct = λ distinct. distinct;
     no_more = omega arith;
     paid = omega arith;
-    left = λ i low high. (clear_block append (maps_of c f map) (slice_index fresh i) (facts.each i high).free).apart;
+    left = λ i low high. (clear_block append (maps_of_states c f map) (slice_index fresh i) (facts.each i high).free).apart;
     kept = λ i low high. refl;
     begun = λ j few early. absurd (omega arith);
     others = λ j few later. refl;
@@ -87,14 +87,14 @@ module _ (lack : List Bool) (fresh : List ℕ) (k : ℕ) (append0 append' : List
 
   -- a zone that has too little
   step_some : lacks_at lack k ≡ true → slice_index fresh (count_first lack k) < 2 ^ 32 → (now : PageMap)
-      → EntryPut (slice_index fresh (count_first lack k)) (begun (TREE_ZONE + k)) mid now
+      → EntryPut (slice_index fresh (count_first lack k)) (entry_begun (TREE_ZONE + k)) mid now
       → Renewing lack fresh (k + 1) (count_first lack (k + 1)) append0 (slice_set append' k (slice_index fresh (count_first lack k))) old now
   step_some lacks small now put =
       let next = count_first lack k in
       let block = slice_index fresh next in
       let one : count_first lack (k + 1) ≡ next + 1 = first_more lack k (omega (arith, four))
       ∙ (let bits : bit (lacks_at lack k) ≡ 1 = ap bit lacks in omega (arith, bits)) in
-      let inside : next < count_of lack = omega (arith, one, first_few lack (k + 1)) in
+      let inside : next < lacking_count lack = omega (arith, one, first_few lack (k + 1)) in
       record {
         four = length-set append' k block ∙ renewing.four;
         pages = λ at other. put.pages at (λ same. other (ap zone_of same ∙ page_zone block small)) ∙ renewing.pages at other;
@@ -107,17 +107,23 @@ module _ (lack : List Bool) (fresh : List ℕ) (k : ℕ) (append0 append' : List
             ∙ renewing.elsewhere at (λ j few early needs. apart j few (omega (arith, early)) needs);
         each = λ bigblocks c f facts.
             let r = renewing.each bigblocks c f facts in
-            let maps = maps_of c f mid in
+            let maps = maps_of_states c f mid in
             let four = renewing.four in
             let fact = facts.each next inside in
-            let was = clear_block append0 (maps_of c f old) block fact.free in
+            let was = clear_block append0 (maps_of_states c f old) block fact.free in
             let clear : is_clear_at mid block ≡ true =
             ap (λ (e : Entry). is_whole_block e.bytes_free) (r.kept next (omega arith) inside) ∙ was.current in
             let free : is_free_by append' maps block ≡ true =
             clear_is_free append' maps block (r.left next (omega arith) inside) was.committed was.frozen clear in
             let pool = fact.pool in
-            let apart : (i : ℕ) → next < i → i < count_of lack → block ≢ slice_index fresh i = λ i later high same.
-            absurd (omega (arith, later, fact.lower, (facts.each i high).lower, ap (free_before bigblocks (is_free_by append0 (maps_of c f old))) same)) in
+            let apart : (i : ℕ) → next < i → i < lacking_count lack → block ≢ slice_index fresh i = λ i later high same.
+            absurd (omega (
+              arith,
+              later,
+              fact.lower,
+              (facts.each i high).lower,
+              ap (free_before bigblocks (is_free_by append0 (maps_of_states c f old))) same,
+            )) in
             let after : (j : ℕ) → (k + 1 ≤ j) ⊎ (lacks_at lack j ≡ false) → j ≢ k = λ j which here.
             ⊎_elim (λ (later : k + 1 ≤ j). absurd (omega (arith, later, here)))
             (λ none. absurd (true≢false (sym (ap (lacks_at lack) here ∙ lacks) ∙ none))) which in
@@ -181,8 +187,8 @@ told_step lack fresh k next append0 append' append'' lacks block (Some x) (Some 
           subst (λ (n : ℕ). Renewing lack fresh (k + 1) n append0 append'' x z) (counted false same)
           (rw (begins.0, begins.1) (step_none lack fresh k append0 append' x y low four was (sym same)))
       by_test true same begins =
-          let put : EntryPut (slice_index fresh (count_first lack k)) (begun (TREE_ZONE + k)) y z =
-          subst (λ (b : ℕ). EntryPut b (begun (TREE_ZONE + k)) y z) place begins.1 in
+          let put : EntryPut (slice_index fresh (count_first lack k)) (entry_begun (TREE_ZONE + k)) y z =
+          subst (λ (b : ℕ). EntryPut b (entry_begun (TREE_ZONE + k)) y z) place begins.1 in
           let done = step_some lack fresh k append0 append' x y low four was (sym same) (subst (λ (b : ℕ). b < 2 ^ 32) place small) z put in
           subst (λ (n : ℕ). Renewing lack fresh (k + 1) n append0 append'' x z) (counted true same)
           (subst (λ (l : List ℕ). Renewing lack fresh (k + 1) (count_first lack (k + 1)) append0 l x z) (sym (begins.0 ∙ ap (slice_set append' k) place)) done)

@@ -25,16 +25,16 @@ abbrev pub does_lack : Zones → (ℕ → ℕ) → ℕ → Bool
 does_lack zones room zone = names_zone zones zone && nat_lt (room zone) (reserve_of zone)
 
 -- the zones 8 to 11 that do
-abbrev pub lacking : Zones → (ℕ → ℕ) → List Bool
-lacking zones room = does_lack zones room 8 ∷ does_lack zones room 9 ∷ does_lack zones room 10 ∷ does_lack zones room 11 ∷ []
+abbrev pub which_lack : Zones → (ℕ → ℕ) → List Bool
+which_lack zones room = does_lack zones room 8 ∷ does_lack zones room 9 ∷ does_lack zones room 10 ∷ does_lack zones room 11 ∷ []
 
 -- how many of the zones before the one with this place among the four do
 abbrev pub lacking_before : Zones → (ℕ → ℕ) → ℕ → ℕ
 lacking_before zones room k = count_by (does_lack zones room) (range_with_len TREE_ZONE k)
 
 -- the entry of a big-block that a zone began
-abbrev pub begun : ℕ → Entry
-begun zone = record { zone = zone; append_off = 0; bytes_free = pos BIGBLOCK_BYTES }
+abbrev pub entry_begun : ℕ → Entry
+entry_begun zone = record { zone = zone; append_off = 0; bytes_free = pos BIGBLOCK_BYTES }
 
 -- how many big-blocks of the pool before one pass a test for free ones
 abbrev pub free_before : ℕ → (ℕ → Bool) → ℕ → ℕ

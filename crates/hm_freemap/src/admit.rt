@@ -30,14 +30,14 @@ ghost use Rattle.hm_freemap.specs.Admit.{
   IsAdmitted,
   IsLookedAt,
   IsRefused,
-  begun,
+  entry_begun,
   does_lack,
-  lacking,
+  which_lack,
 };
 ghost use Rattle.hm_freemap.specs.Extents.{Moves};
 ghost use Rattle.hm_freemap.specs.Faults.{HasFreemapCause};
 ghost use Rattle.hm_freemap.specs.Places.{HasLayer2, page_of};
-ghost use Rattle.hm_freemap.specs.Renew.{Begins, Renewing, count_of};
+ghost use Rattle.hm_freemap.specs.Renew.{Begins, Renewing, lacking_count};
 ghost use Rattle.hm_freemap.specs.Stand.{AreBelow, EntryPut, WhereTold, append_of, room_in};
 
 use crate::entry::Entry;
@@ -123,7 +123,7 @@ fn lacking<P: FreemapPages>(
     requires most { bigblocks ≤ MOST_BIGBLOCKS }
     requires there { HasLayer2 bigblocks (P.layer2 pages.old) }
     ensures ok { IfOk result (λ all. IfSome (P.pages pages.old) (λ map.
-        all ≡ lacking zones (room_in append.now map))) }
+        all ≡ which_lack zones (room_in append.now map))) }
     ensures same { (P.pages pages.new ≡ P.pages pages.old)
         × (P.committed pages.new ≡ P.committed pages.old)
         × (P.frozen pages.new ≡ P.frozen pages.old)
@@ -155,7 +155,7 @@ fn begin<P: FreemapPages>(pages: &mut P, block: u64, zone: u8) -> Result<(), Fau
     requires block { block < 2 ^ 32 }
     requires there { IsTrue (P.layer2 pages.old (page_of block)) }
     ensures ok { OnOk result (BothTell (P.pages pages.old) (P.pages pages.new)
-        (EntryPut block (begun zone))) }
+        (EntryPut block (entry_begun zone))) }
     ensures same { (P.committed pages.new ≡ P.committed pages.old)
         × (P.frozen pages.new ≡ P.frozen pages.old)
         × (P.layer2 pages.new ≡ P.layer2 pages.old) }
@@ -214,7 +214,7 @@ fn renew<P: FreemapPages>(
     requires fresh { AreBelow bigblocks fresh.now }
     requires there { HasLayer2 bigblocks (P.layer2 pages.old) }
     ensures ok { OnOk result (BothTell (P.pages pages.old) (P.pages pages.new)
-        (Renewing lacking.now fresh.now 4 (count_of lacking.now) append.old append.new)) }
+        (Renewing lacking.now fresh.now 4 (lacking_count lacking.now) append.old append.new)) }
     ensures below { AreBelow bigblocks append.new }
     ensures same { (P.committed pages.new ≡ P.committed pages.old)
         × (P.frozen pages.new ≡ P.frozen pages.old)

@@ -3,7 +3,7 @@ ghost use Rattle.std.specs.Prelude.{◌≡◌, ◌≤◌, ◌+◌, ◌-◌, ◌%
 ghost use Rattle.hm_types.specs.References.{unit_of};
 ghost use Rattle.hm_types.specs.declared.limits.TheConstants.{PAGE_BYTES, MOST_BIGBLOCKS};
 ghost use Rattle.hm_fields.specs.Fields.{Apart, get};
-ghost use Rattle.hm_freemap.specs.Admit.{begun};
+ghost use Rattle.hm_freemap.specs.Admit.{entry_begun};
 ghost use Rattle.hm_freemap.specs.Change.{HasRoomFor, MayHold, appended, shared, given};
 ghost use Rattle.hm_freemap.specs.Fresh.{unused_entry};
 ghost use Rattle.hm_freemap.specs.Entry.{
@@ -53,7 +53,7 @@ impl Entry {
 
     /// The entry of a big-block that a zone begins to append to.
     pub fn begun(zone: u8) -> Entry
-        ensures { result ≡ begun zone }
+        ensures { result ≡ entry_begun zone }
     {
         Entry {
             zone,

@@ -7,12 +7,12 @@ use Rattle.hm_header.specs.Change.{HoldsHeader, IsNext}
 use Rattle.hm_header.specs.Layout.{body_of, header_in, zeros}
 use Rattle.hm_header.specs.OnDisk.{HasHeader, HasSlots, first_slot, second_slot, slot_in}
 use Rattle.hm_header.specs.Range.{HasRoom, IsHeader}
-use Rattle.hm_header.specs.Slots.{Counts, Follows, IsChosen, IsClosed, Spells, TakesPart, slot_of}
+use Rattle.hm_header.specs.Slots.{Counts, Follows, IsChosen, IsClosed, SpellsHeader, TakesPart, slot_of}
 use Rattle.hm_header.proofs.LayoutLemmas.{begins, header_back}
 use Rattle.hm_header.proofs.SlotLemmas.{counts_takes_part, encoded_is_chosen, encoded_takes_part, last_counts, length-body}
 
 -- a slot with the body of a header reads as this header
-spelled-reads : (slot : List ℕ) (header : Header) → Spells slot header → IsHeader header → header_in slot ≡ header
+spelled-reads : (slot : List ℕ) (header : Header) → SpellsHeader slot header → IsHeader header → header_in slot ≡ header
 spelled-reads slot header spelled is =
     ap header_in (begins slot header spelled) ∙ header_back header (zeros 16311 ++ drop 16383 slot) is
 
@@ -34,7 +34,7 @@ pub held-kept : (old new : List ℕ) (header : Header) (number : ℕ) → length
     → HoldsHeader header number old → HoldsHeader header number new
 held-kept old new header number size same held = record {
   part = subst TakesPart (sym same) held.part;
-  spelled = subst (λ (s : List ℕ). Spells s header) (sym same) held.spelled;
+  spelled = subst (λ (s : List ℕ). SpellsHeader s header) (sym same) held.spelled;
   in_range = held.in_range;
   room = subst (λ (n : ℕ). HasRoom n header.bigblocks) (sym size) held.room;
 }
@@ -70,7 +70,7 @@ header-same old new header number size first second chosen =
     (subst (λ (s : List ℕ). IsChosen (first_slot old) s (length old) header number) (sym second) chosen))
 
 -- the next header's slot follows that of the header that counts
-next-follows : (slot : List ℕ) (header next : Header) → Spells slot header → IsHeader header → IsHeader next
+next-follows : (slot : List ℕ) (header next : Header) → SpellsHeader slot header → IsHeader header → IsHeader next
     → next.generation ≡ (header.generation + 1) % 2 ^ 64 → Follows slot (body_of next ++ GATE_OPEN ∷ [])
 next-follows slot header next spelled is is_next generation =
     ap (λ (h : Header). h.generation) (written-reads next is_next)
@@ -78,7 +78,7 @@ next-follows slot header next spelled is is_next generation =
 
 -- so it counts where its gate is open
 next-counts : (first second : List ℕ) (header next : Header) (number : ℕ) → number ≤ 1 → IsHeader header → IsHeader next
-    → next.generation ≡ (header.generation + 1) % 2 ^ 64 → TakesPart (slot_of first second number) → Spells (slot_of first second number) header
+    → next.generation ≡ (header.generation + 1) % 2 ^ 64 → TakesPart (slot_of first second number) → SpellsHeader (slot_of first second number) header
     → slot_of first second (1 - number) ≡ body_of next ++ GATE_OPEN ∷ [] → Counts first second (1 - number)
 next-counts first second header next zero small is is_next generation part spelled written =
     let other : TakesPart second = subst TakesPart (sym written) (encoded_takes_part next) in

@@ -13,7 +13,7 @@ use Rattle.hm_header.specs.declared.header.Header.{Header}
 use Rattle.hm_header.specs.declared.header.TheConstants.{SLOT_BYTES}
 use Rattle.hm_header.specs.Change.{AnyCrash, AreSlotsSettled, HasNextBody, HaveSameSlots, IsClosedBeside, IsCounting}
 use Rattle.hm_header.specs.OnDisk.{HasHeader, slot_in}
-use Rattle.hm_header.specs.Slots.{IsClosed, Spells}
+use Rattle.hm_header.specs.Slots.{IsClosed, SpellsHeader}
 use Rattle.hm_header.proofs.ChangeLemmas.{settled-any}
 use Rattle.hm_header.proofs.HeaderLemmas.{header-same, held-kept}
 use Rattle.hm_header.proofs.SliceLemmas.{slice-same}
@@ -55,7 +55,7 @@ module _ (header : Header) (slot : ℕ) where
 next-hangs : (header next : Header) (slot : ℕ) → HangsOnSlots (HasNextBody header slot next)
 next-hangs header next slot old new same was = record {
   held = held-kept old new header slot same.size (slot-either old new slot same) was.held;
-  body = subst (λ (s : List ℕ). Spells s next) (sym (slot-either old new (1 - slot) same)) was.body;
+  body = subst (λ (s : List ℕ). SpellsHeader s next) (sym (slot-either old new (1 - slot) same)) was.body;
   header_is = ⊎_elim (λ old_is. inl (counting-hangs header slot old new same old_is))
       (λ next_is. inr (counting-hangs next (1 - slot) old new same next_is)) was.header_is;
 }

@@ -5,7 +5,7 @@ use Rattle.hm_header.specs.declared.fault.HeaderFault.{HeaderFault}
 use Rattle.hm_header.specs.declared.fault.HeaderFault.TheVariants.{NotVolume, BadField}
 use Rattle.hm_header.specs.declared.header.Header.{Header}
 use Rattle.hm_header.specs.Layout.{zeros, body_of, header_in}
-use Rattle.hm_header.specs.Parts.{AreInRange, IsBadField, IsFirstBad, IsInRange, Part, all_parts, append_parts, size_parts, state_parts, undo_parts}
+use Rattle.hm_header.specs.Parts.{AreInRange, IsBadField, IsFirstBad, IsPartInRange, Part, all_parts, append_parts, size_parts, state_parts, undo_parts}
 use Rattle.hm_header.specs.Range.{HasRoom, IsAppendAt, IsHeader}
 use Rattle.hm_header.specs.Parts.Part.{Rest}
 use Rattle.hm_header.proofs.LayoutLemmas.{begins, gap_back, get_fits, header_back, rest_back}
@@ -80,7 +80,7 @@ bad_append slot size fault sizes state undo bad =
 
 pub bad_rest : (slot : List ℕ) (size : ℕ) (fault : HeaderFault) → AreInRange slot size size_parts
     → AreInRange slot size state_parts → AreInRange slot size undo_parts → AreInRange slot size append_parts
-    → ¬ IsInRange slot size Rest → fault ≡ BadField 72 → IsBadField slot size all_parts fault
+    → ¬ IsPartInRange slot size Rest → fault ≡ BadField 72 → IsBadField slot size all_parts fault
 bad_rest slot size fault sizes state undo append bad is =
     let good = both_in slot size size_parts state_parts sizes state in
     let more = both_in slot size (size_parts ++ state_parts) undo_parts good undo in
@@ -90,7 +90,7 @@ bad_rest slot size fault sizes state undo append bad is =
     most (inl (refl, bad)))
 
 pub all_in : (slot : List ℕ) (size : ℕ) → AreInRange slot size size_parts → AreInRange slot size state_parts
-    → AreInRange slot size undo_parts → AreInRange slot size append_parts → IsInRange slot size Rest
+    → AreInRange slot size undo_parts → AreInRange slot size append_parts → IsPartInRange slot size Rest
     → AreInRange slot size all_parts
 all_in slot size sizes state undo append rest =
     let good = both_in slot size size_parts state_parts sizes state in

@@ -10,7 +10,7 @@ use Rattle.hm_header.specs.declared.header.TheConstants.{GATE_OPEN}
 use Rattle.hm_header.specs.Layout.{zeros, fields_of, body_of, header_in, signature}
 use Rattle.hm_header.specs.Parts.{AreInRange, IsBadField, IsFirstBad, all_parts}
 use Rattle.hm_header.specs.Range.{HasRoom, IsHeader}
-use Rattle.hm_header.specs.Slots.{Counts, FirstCounts, Follows, IsChosen, IsClosed, IsFault, SecondCounts, Spells, TakesPart, slot_of}
+use Rattle.hm_header.specs.Slots.{Counts, FirstCounts, Follows, IsChosen, IsClosed, IsFault, SecondCounts, SpellsHeader, TakesPart, slot_of}
 use Rattle.hm_header.proofs.NumberLemmas.{length-zeros}
 use Rattle.hm_header.proofs.LayoutLemmas.{body_is_one, body_read, length-fields}
 use Rattle.hm_header.proofs.RangeLemmas.{bad_is_one, header_in_range, none_bad, spelled_in_range}
@@ -53,8 +53,8 @@ pub chosen_is_one : (first second : List ℕ) (size : ℕ) (a b : Header) (m n :
     → IsChosen first second size a m → IsChosen first second size b n → (a ≡ b) × (m ≡ n)
 chosen_is_one first second size a b m n p q =
     let number = counts_is_one first second m n p.counts q.counts in
-    let P : ℕ → Type 0 = λ k. Spells (slot_of first second k) b in
-    let other : Spells (slot_of first second m) b = subst P (sym number) q.spelled in
+    let P : ℕ → Type 0 = λ k. SpellsHeader (slot_of first second k) b in
+    let other : SpellsHeader (slot_of first second m) b = subst P (sym number) q.spelled in
     (body_is_one a b p.in_range q.in_range (sym p.spelled ∙ other), number)
 
 -- one fault is told
@@ -100,7 +100,7 @@ body_in_range slot size small part good =
 
 pub header_of_slot : (slot : List ℕ) (size : ℕ) → ((k : ℕ) → slice_index slot k < 256) → TakesPart slot
     → AreInRange slot size all_parts
-    → (header : Header) × Spells slot header × IsHeader header × HasRoom size header.bigblocks
+    → (header : Header) × SpellsHeader slot header × IsHeader header × HasRoom size header.bigblocks
 header_of_slot slot size small part good =
     (header_in slot, body_in_range slot size small part good, header_in_range slot size small good, good.1.0.1)
 
@@ -113,7 +113,7 @@ chosen_at first second slot size header number small counts here read good part 
     let is : IsHeader header = subst IsHeader (sym read) (header_in_range slot size small good) in
     let body : take 16383 slot ≡ body_of header = body_in_range slot size small part good ∙ ap body_of (sym
     read) in
-    let P : List ℕ → Type 0 = λ s. Spells s header in
+    let P : List ℕ → Type 0 = λ s. SpellsHeader s header in
     let Q : Header → Type 0 = λ h. HasRoom size h.bigblocks in
     record { counts = counts; spelled = subst P here body; in_range = is; room = subst Q (sym read) good.1.0.1 }
 
@@ -227,7 +227,7 @@ pub closed_first : (first other second : List ℕ) (size : ℕ) → IsClosed fir
     × ((fault : HeaderFault) → IsFault first second size fault → IsFault other second size fault)
 closed_first first other second size p q = (
   (λ header number chosen.
-      let P : List ℕ → Type 0 = λ s. Spells s header in
+      let P : List ℕ → Type 0 = λ s. SpellsHeader s header in
       record {
         counts = first_counts first other second number p q chosen.counts;
         spelled = subst P (first_slot first other second number p chosen.counts) chosen.spelled;
@@ -243,7 +243,7 @@ pub closed_second : (first second other : List ℕ) (size : ℕ) → IsClosed se
     × ((fault : HeaderFault) → IsFault first second size fault → IsFault first other size fault)
 closed_second first second other size p q = (
   (λ header number chosen.
-      let P : List ℕ → Type 0 = λ s. Spells s header in
+      let P : List ℕ → Type 0 = λ s. SpellsHeader s header in
       record {
         counts = second_counts first second other number p q chosen.counts;
         spelled = subst P (second_slot first second other number p chosen.counts) chosen.spelled;

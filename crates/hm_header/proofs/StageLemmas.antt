@@ -17,7 +17,7 @@ use Rattle.hm_header.specs.Change.{IsCounting, IsNext, StageDone, StageElapses, 
 use Rattle.hm_header.specs.Layout.{body_of}
 use Rattle.hm_header.specs.OnDisk.{HasHeader, HasSlots, gate_place, slot_in, slot_place}
 use Rattle.hm_header.specs.Range.{IsHeader}
-use Rattle.hm_header.specs.Slots.{IsClosed, Spells}
+use Rattle.hm_header.specs.Slots.{IsClosed, SpellsHeader}
 use Rattle.hm_header.proofs.GateLemmas.{byte-same, closed-by-byte, closed-kept, gate-overwritten, is-open}
 use Rattle.hm_header.proofs.HeaderLemmas.{header-held, header-kept, header-slots, held-counts, held-kept, held-slots, next-header}
 use Rattle.hm_header.proofs.OnDiskLemmas.{body-written, other-slot-kept, slot-byte, slot-of-body, slot-under-gate}
@@ -145,7 +145,7 @@ take-byte : (xs : List ℕ) (n i : ℕ) → i < n → get_or (take n xs) i 0 ≡
 take-byte xs n i below = grind (arith, places)
 
 -- a byte of a slot that has the body of a header
-spelled-byte : (number : ℕ) (bytes : List ℕ) (header : Header) → number ≤ 1 → Spells (slot_in bytes number) header
+spelled-byte : (number : ℕ) (bytes : List ℕ) (header : Header) → number ≤ 1 → SpellsHeader (slot_in bytes number) header
     → (i : ℕ) → i < 16383 → slice_index bytes (slot_place number + i) ≡ slice_index (body_of header) i
 spelled-byte number bytes header small spelled i below =
     sym (slot-byte number bytes i small (omega (arith, below)))
@@ -254,7 +254,7 @@ module _ (header : Header) (slot : ℕ) (small : slot ≤ 1) where
         beside : IsClosedBeside header slot t.bytes
         beside = beside-kept s.bytes t.bytes change (beside-now s safe)
 
-        spelled : Spells (slot_in t.bytes (1 - slot)) next
+        spelled : SpellsHeader (slot_in t.bytes (1 - slot)) next
         spelled =
             ap (λ (xs : List ℕ). take 16383 xs)
             (slot-of-body (1 - slot) t.bytes (body_of next) (omega arith) (omega (arith, both, change.size)) (length-body next)

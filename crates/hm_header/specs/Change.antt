@@ -8,7 +8,7 @@ use Rattle.hm_header.specs.declared.header.Header.{Header}
 use Rattle.hm_header.specs.declared.header.TheConstants.{SLOT_BYTES}
 use Rattle.hm_header.specs.OnDisk.{HasHeader, slot_in, slot_place}
 use Rattle.hm_header.specs.Range.{HasRoom, IsHeader}
-use Rattle.hm_header.specs.Slots.{IsClosed, Spells, TakesPart}
+use Rattle.hm_header.specs.Slots.{IsClosed, SpellsHeader, TakesPart}
 
 -- the header that is written after another, on the same volume
 pub record IsNext (header next : Header) : Type 0 where
@@ -42,7 +42,7 @@ pub record IsClosedBeside (header : Header) (slot : ℕ) (bytes : List ℕ) : Ty
 -- the slot of this number has this header under an open gate, on a disk with room for its volume
 pub record HoldsHeader (header : Header) (number : ℕ) (bytes : List ℕ) : Type 0 where
   pub part : TakesPart (slot_in bytes number)
-  pub spelled : Spells (slot_in bytes number) header
+  pub spelled : SpellsHeader (slot_in bytes number) header
   pub in_range : IsHeader header
   pub room : HasRoom (length bytes) header.bigblocks
 
@@ -50,7 +50,7 @@ pub record HoldsHeader (header : Header) (number : ℕ) (bytes : List ℕ) : Typ
 -- next header, under any gate. Where this gate is open the next header counts, and else the header does.
 pub record HasNextBody (header : Header) (slot : ℕ) (next : Header) (bytes : List ℕ) : Type 0 where
   pub held : HoldsHeader header slot bytes
-  pub body : Spells (slot_in bytes (1 - slot)) next
+  pub body : SpellsHeader (slot_in bytes (1 - slot)) next
   pub header_is : HasHeader bytes header slot ⊎ HasHeader bytes next (1 - slot)
 
 -- What the second one brings about: this, under a closed gate.

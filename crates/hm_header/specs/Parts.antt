@@ -41,20 +41,20 @@ place_of SmallAppend = 68
 place_of Rest = 72
 
 -- a part of a slot is in range, on a disk of so many bytes
-abbrev pub IsInRange : List ℕ → ℕ → Part → Type 0
-IsInRange slot size Version = (header_in slot).version ≡ VERSION
-IsInRange slot size Bigblocks = IsSize (header_in slot).bigblocks × HasRoom size (header_in slot).bigblocks
-IsInRange slot size Last = IsId (header_in slot).last.0
-IsInRange slot size Root = IsRoot (header_in slot).bigblocks (header_in slot).root
-IsInRange slot size UndoFirst = IsEntry (header_in slot).undo_first
-IsInRange slot size UndoCount = IsCount (header_in slot).undo_count
-IsInRange slot size UndoNext = IsEntry (header_in slot).undo_next
-IsInRange slot size Gap = get slot 52 4 ≡ 0
-IsInRange slot size TreeAppend = IsAppendAt (header_in slot) 0
-IsInRange slot size MetaAppend = IsAppendAt (header_in slot) 1
-IsInRange slot size LargeAppend = IsAppendAt (header_in slot) 2
-IsInRange slot size SmallAppend = IsAppendAt (header_in slot) 3
-IsInRange slot size Rest = slice_range slot 72 16383 ≡ zeros 16311
+abbrev pub IsPartInRange : List ℕ → ℕ → Part → Type 0
+IsPartInRange slot size Version = (header_in slot).version ≡ VERSION
+IsPartInRange slot size Bigblocks = IsSize (header_in slot).bigblocks × HasRoom size (header_in slot).bigblocks
+IsPartInRange slot size Last = IsId (header_in slot).last.0
+IsPartInRange slot size Root = IsRoot (header_in slot).bigblocks (header_in slot).root
+IsPartInRange slot size UndoFirst = IsEntry (header_in slot).undo_first
+IsPartInRange slot size UndoCount = IsCount (header_in slot).undo_count
+IsPartInRange slot size UndoNext = IsEntry (header_in slot).undo_next
+IsPartInRange slot size Gap = get slot 52 4 ≡ 0
+IsPartInRange slot size TreeAppend = IsAppendAt (header_in slot) 0
+IsPartInRange slot size MetaAppend = IsAppendAt (header_in slot) 1
+IsPartInRange slot size LargeAppend = IsAppendAt (header_in slot) 2
+IsPartInRange slot size SmallAppend = IsAppendAt (header_in slot) 3
+IsPartInRange slot size Rest = slice_range slot 72 16383 ≡ zeros 16311
 
 -- the parts with the version and the size of the volume, by rising places
 abbrev pub size_parts : List Part
@@ -78,14 +78,14 @@ all_parts = size_parts ++ state_parts ++ undo_parts ++ append_parts ++ Rest ∷ 
 
 -- these parts of a slot are in range
 abbrev pub AreInRange : List ℕ → ℕ → List Part → Type 0
-AreInRange slot size parts = AllByRecursion (IsInRange slot size) parts
+AreInRange slot size parts = AllByRecursion (IsPartInRange slot size) parts
 
 -- the first of these parts that is out of range begins at this place
 abbrev pub IsFirstBad : List ℕ → ℕ → List Part → ℕ → Type 0
 IsFirstBad slot size [] place = ⊥
 IsFirstBad slot size (part ∷ more) place =
-    ((place ≡ place_of part) × ¬ IsInRange slot size part)
-    ⊎ (IsInRange slot size part × IsFirstBad slot size more place)
+    ((place ≡ place_of part) × ¬ IsPartInRange slot size part)
+    ⊎ (IsPartInRange slot size part × IsFirstBad slot size more place)
 
 -- a fault tells of that place
 abbrev pub IsBadField : List ℕ → ℕ → List Part → HeaderFault → Type 0

@@ -42,13 +42,13 @@ slot_of first second zero = first
 slot_of first second (suc number) = second
 
 -- the body of a slot is that of this header
-abbrev pub Spells : List ℕ → Header → Type 0
-Spells slot header = take BODY_BYTES slot ≡ body_of header
+abbrev pub SpellsHeader : List ℕ → Header → Type 0
+SpellsHeader slot header = take BODY_BYTES slot ≡ body_of header
 
 -- the slot of this number counts, and this is its header, on a disk of so many bytes
 pub record IsChosen (first second : List ℕ) (size : ℕ) (header : Header) (number : ℕ) : Type 0 where
   pub counts : Counts first second number
-  pub spelled : Spells (slot_of first second number) header
+  pub spelled : SpellsHeader (slot_of first second number) header
   pub in_range : IsHeader header
   pub room : HasRoom size header.bigblocks
 

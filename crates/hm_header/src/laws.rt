@@ -12,7 +12,7 @@ ghost use Rattle.hm_header.specs.Layout.{body_of, header_in};
 ghost use Rattle.hm_header.specs.Parts.{AreInRange, all_parts};
 ghost use Rattle.hm_header.specs.Range.{HasRoom, IsHeader};
 ghost use Rattle.hm_header.specs.Slots.{Counts, FirstCounts, SecondCounts, Follows, IsChosen, TakesPart};
-ghost use Rattle.hm_header.specs.Slots.{IsClosed, IsFault, Spells, slot_of};
+ghost use Rattle.hm_header.specs.Slots.{IsClosed, IsFault, SpellsHeader, slot_of};
 
 /// A body is that of one header in range at most.
 pub fn body_has_one_header()
@@ -28,12 +28,12 @@ pub fn body_has_its_length()
 pub fn slot_in_range_has_a_header()
     ensures { (slot : List ℕ) (size : ℕ) → ((k : ℕ) → slice_index slot k < 256) →
         TakesPart slot → AreInRange slot size all_parts → (header : Header)
-        × Spells slot header × IsHeader header × HasRoom size header.bigblocks }
+        × SpellsHeader slot header × IsHeader header × HasRoom size header.bigblocks }
 {}
 
 /// A slot with the body of a header in range has each field in range.
 pub fn slot_of_a_header_is_in_range()
-    ensures { (slot : List ℕ) (size : ℕ) (header : Header) → Spells slot header →
+    ensures { (slot : List ℕ) (size : ℕ) (header : Header) → SpellsHeader slot header →
         IsHeader header → HasRoom size header.bigblocks → AreInRange slot size all_parts }
 {}
 

@@ -4,9 +4,10 @@ use Rattle.std.proofs.lemmas.Bool.{cond_both, cond-true, cond-false, eqb-true, e
 use Rattle.hm_types.specs.Layout.{IsPool, first_pool, first_undo}
 use Rattle.hm_types.specs.declared.zone.TheConstants.{VOLUME_ZONE, UNDO_ZONE, FREEMAP_ZONE, UNAVAILABLE_ZONE}
 use Rattle.hm_freemap.specs.Entry.{IsEntry, IsEntryOf, IsPoolEntry, IsReservedZone}
+use Rattle.hm_freemap.specs.Fresh.{reserved_entry}
 use Rattle.hm_freemap.specs.declared.entry.Entry.{Entry}
 use Rattle.hm_header.specs.Range.{IsSize}
-use Rattle.hm_image.specs.Fresh.{fresh_entry, pool_entry, reserved_entry}
+use Rattle.hm_image.specs.Fresh.{fresh_entry, pool_entry}
 use Rattle.hm_image.proofs.OffsetLemmas.{pool_is}
 
 reserved_is : (zone : ℕ) → IsReservedZone zone → IsEntry (reserved_entry zone)

@@ -4,6 +4,7 @@ use Rattle.hm_types.specs.Layout.{blocks_per_layer2, first_pool, first_undo, lay
 use Rattle.hm_types.specs.Offset.{raw_of}
 use Rattle.hm_types.specs.declared.limits.TheConstants.{BIGBLOCK_BYTES, PAGE_BYTES}
 use Rattle.hm_types.specs.declared.zone.TheConstants.{VOLUME_ZONE, UNDO_ZONE, FREEMAP_ZONE, TREE_ZONE, META_ZONE, LARGE_ZONE, SMALL_ZONE, UNAVAILABLE_ZONE}
+use Rattle.hm_freemap.specs.Fresh.{reserved_entry}
 use Rattle.hm_freemap.specs.declared.entry.Entry.{Entry}
 use Rattle.hm_freemap.specs.declared.entry.TheConstants.{UNUSED}
 use Rattle.hm_header.specs.Layout.{body_of}
@@ -57,10 +58,6 @@ fresh_header bigblocks = record {
 abbrev pub filled_entry : ℕ → ℕ → Entry
 filled_entry zone bytes =
     record { zone = zone; append_off = bytes; bytes_free = pos BIGBLOCK_BYTES -ℤ pos bytes }
-
--- an entry of a big-block that no space is handed out of
-abbrev pub reserved_entry : ℕ → Entry
-reserved_entry zone = record { zone = zone; append_off = 0; bytes_free = pos 0 }
 
 -- the entry of the big-block so far from the pool's first: a node, two payloads of 32 and 48 bytes, and nothing else
 abbrev pub pool_entry : ℕ → Entry

@@ -7,7 +7,7 @@ use Rattle.std.proofs.lemmas.List.{get_or_default, get_or-map, length-map, map-a
 use Rattle.hm_types.specs.Offset.{zone_of, byte_of, raw_of}
 use Rattle.hm_types.specs.Space.{IsPayloadZone, rounded}
 use Rattle.hm_key.specs.Extents.{Extent, IsExtent, AreExtents, extent_at, shared_at, given_back_at}
-use Rattle.hm_key.specs.Memory.{extent_of, extents_of, told_of, EndBy, NoneAt, IsAt}
+use Rattle.hm_key.specs.Memory.{extent_of_held, extents_of, length_and_references, EndBy, NoneAt, IsAt}
 use Rattle.hm_key.specs.declared.held.Held.{Held}
 use Rattle.hm_key.proofs.ExtentLemmas.{IsFilled, new_extent, new_extents, new_end, EndBy-later}
 
@@ -46,7 +46,8 @@ IsAt-within at (h ∷ hs) zero is = omega arith
 IsAt-within at (h ∷ hs) (suc place) is = omega (arith, IsAt-within at hs place is.1)
 
 -- the extent at the offset is the one at its place
-pub extent_at-place : (at : ℕ) (d : Held) (hs : List Held) (place : ℕ) → IsAt at hs place → extent_at at (extents_of hs) ≡ Some (extent_of (get_or hs place d))
+pub extent_at-place : (at : ℕ) (d : Held) (hs : List Held) (place : ℕ) → IsAt at hs place
+    → extent_at at (extents_of hs) ≡ Some (extent_of_held (get_or hs place d))
 extent_at-place at d [] place is = absurd is
 extent_at-place at d (h ∷ hs) zero is = rw is refl
 extent_at-place at d (h ∷ hs) (suc place) is = rw is.0 (extent_at-place at d hs place is.1)
@@ -56,26 +57,27 @@ pub shared_at-place : (at : ℕ) (d : Held) (hs : List Held) (place : ℕ) → I
     → extents_of (set hs place (record (get_or hs place d) { refs = (get_or hs place d).refs + 1 })) ≡ shared_at at (extents_of hs)
 shared_at-place at d [] place is = absurd is
 shared_at-place at d (h ∷ hs) zero is = rw is refl
-shared_at-place at d (h ∷ hs) (suc place) is = rw is.0 (ap (λ (l : List Extent). extent_of h ∷ l) (shared_at-place at d hs place is.1))
+shared_at-place at d (h ∷ hs) (suc place) is = rw is.0 (ap (λ (l : List Extent). extent_of_held h ∷ l) (shared_at-place at d hs place is.1))
 
 -- the extent at its place loses a reference that is not its last
 pub given_at-place : (at : ℕ) (d : Held) (hs : List Held) (place : ℕ) → IsAt at hs place → nat_eq (get_or hs place d).refs 1 ≡ false
     → extents_of (set hs place (record (get_or hs place d) { refs = (get_or hs place d).refs - 1 })) ≡ given_back_at at (extents_of hs)
 given_at-place at d [] place is more = absurd is
 given_at-place at d (h ∷ hs) zero is more = rw (is, more) refl
-given_at-place at d (h ∷ hs) (suc place) is more = rw is.0 (ap (λ (l : List Extent). extent_of h ∷ l) (given_at-place at d hs place is.1 more))
+given_at-place at d (h ∷ hs) (suc place) is more = rw is.0 (ap (λ (l : List Extent). extent_of_held h ∷ l) (given_at-place at d hs place is.1 more))
 
 -- the extent at its place goes with its last reference
 pub gone_at-place : (at : ℕ) (d : Held) (hs : List Held) (place : ℕ) → IsAt at hs place → nat_eq (get_or hs place d).refs 1 ≡ true
     → extents_of (remove hs place) ≡ given_back_at at (extents_of hs)
 gone_at-place at d [] place is last = absurd is
 gone_at-place at d (h ∷ hs) zero is last = rw (is, last) refl
-gone_at-place at d (h ∷ hs) (suc place) is last = rw is.0 (ap (λ (l : List Extent). extent_of h ∷ l) (gone_at-place at d hs place is.1 last))
+gone_at-place at d (h ∷ hs) (suc place) is last = rw is.0 (ap (λ (l : List Extent). extent_of_held h ∷ l) (gone_at-place at d hs place is.1 last))
 
 -- the extent at its place is live
-pub live_at : (d : Held) (hs : List Held) (place : ℕ) → place < length hs → AreExtents (extents_of hs) → IsExtent (extent_of (get_or hs place d))
+pub live_at : (d : Held) (hs : List Held) (place : ℕ) → place < length hs → AreExtents (extents_of hs) → IsExtent (extent_of_held (get_or hs place d))
 live_at d hs place within live =
-    subst IsExtent (get_or-map extent_of hs place d (extent_of d) within) (live.each place (extent_of d) (omega (arith, length-map hs extent_of)))
+    subst IsExtent (get_or-map extent_of_held hs place d (extent_of_held d) within)
+    (live.each place (extent_of_held d) (omega (arith, length-map hs extent_of_held)))
 
 -- what was read twice is the same
 pub read_twice : (h k : Held) (hs : List Held) (place : ℕ) → place < length hs → h ≡ get_or hs place h → k ≡ get_or hs place k → h ≡ k
@@ -111,7 +113,7 @@ gone_here at h hs place is read few live =
 -- the list with a new extent
 pub placed_list : (at : ℕ) (bytes : Vec ℕ Global) (hs fs : List Held) → fs ≡ hs ++ record { at = at; bytes = bytes; refs = 1 } ∷ []
     → extents_of fs ≡ extents_of hs ++ new_extent at bytes.items ∷ []
-placed_list at bytes hs fs items = ap extents_of items ∙ map-append extent_of hs (record { at = at; bytes = bytes; refs = 1 } ∷ [])
+placed_list at bytes hs fs items = ap extents_of items ∙ map-append extent_of_held hs (record { at = at; bytes = bytes; refs = 1 } ∷ [])
 
 -- a new extent comes last, or the list stays
 pub placed_if : (b : Bool) (zone next at : ℕ) (given : List ℕ) (bytes : Vec ℕ Global) (hs fs : List Held) → IsFilled zone next at given bytes.items
@@ -141,13 +143,13 @@ filled_by zone next at given copy all len payload some below offset parts same i
 
 -- the extent that was read at its place is live
 pub live_here : (at : ℕ) (h : Held) (hs : List Held) (place : ℕ) → IsAt at hs place → h ≡ get_or hs place h → AreExtents (extents_of hs)
-    → IsExtent (extent_of h)
-live_here at h hs place is read live = subst (λ (x : Held). IsExtent (extent_of x)) (sym read) (live_at h hs place (IsAt-within at hs place is) live)
+    → IsExtent (extent_of_held h)
+live_here at h hs place is read live = subst (λ (x : Held). IsExtent (extent_of_held x)) (sym read) (live_at h hs place (IsAt-within at hs place is) live)
 
 -- the extent at the offset is the one that was read at its place
 pub extent_at-here : (at : ℕ) (h : Held) (hs : List Held) (place : ℕ) → IsAt at hs place → h ≡ get_or hs place h
-    → extent_at at (extents_of hs) ≡ Some (extent_of h)
-extent_at-here at h hs place is read = extent_at-place at h hs place is ∙ ap (λ (x : Held). Some (extent_of x)) (sym read)
+    → extent_at at (extents_of hs) ≡ Some (extent_of_held h)
+extent_at-here at h hs place is read = extent_at-place at h hs place is ∙ ap (λ (x : Held). Some (extent_of_held x)) (sym read)
 
 -- an extent that was read twice has one number of references
 pub more_twice : (at : ℕ) (h k : Held) (hs : List Held) (place : ℕ) → IsAt at hs place → h ≡ get_or hs place h → k ≡ get_or hs place k → 1 < h.refs → 1 < k.refs
@@ -155,7 +157,7 @@ more_twice at h k hs place is first second more = subst (λ (x : Held). 1 < x.re
 
 -- what is told of the extent at an offset, which was found
 pub told_found : (at : ℕ) (h : Held) (hs read : List Held) (i : ℕ) → read ≡ hs → NoneAt at hs i → i < length hs → nat_eq h.at at ≡ true → h ≡ get_or read i h
-    → Some (told_of (extent_of h)) ≡ option_map told_of (extent_at at (extents_of hs))
+    → Some (length_and_references (extent_of_held h)) ≡ option_map length_and_references (extent_at at (extents_of hs))
 told_found at h hs read i is none within same found =
     let there : h ≡ get_or hs i h = found ∙ ap (λ (l : List Held). get_or l i h) is in
     let here : IsAt at hs i = IsAt-found at h hs i none within (subst (λ (x : Held). nat_eq x.at at ≡ true) there same) in
@@ -169,7 +171,7 @@ told_more at h hs read i is none within other found =
     rw add-one (NoneAt-more at h hs i none within (subst (λ (x : Held). nat_eq x.at at ≡ false) there other))
 
 -- none stands at an offset, when all were looked at
-pub told_none : (at : ℕ) (hs : List Held) (i : ℕ) → NoneAt at hs i → length hs ≤ i → None ≡ option_map told_of (extent_at at (extents_of hs))
+pub told_none : (at : ℕ) (hs : List Held) (i : ℕ) → NoneAt at hs i → length hs ≤ i → None ≡ option_map length_and_references (extent_at at (extents_of hs))
 told_none at [] i none all = refl
 told_none at (h ∷ hs) zero none all = absurd (omega arith)
 told_none at (h ∷ hs) (suc i) none all = rw none.0 (told_none at hs i none.1 (omega arith))

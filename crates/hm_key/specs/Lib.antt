@@ -13,6 +13,7 @@ pub mod Marks
 pub mod Calls
 pub mod Charges
 pub mod Stores
+pub mod Members
 pub mod Sweep
 pub mod Versions
 pub mod ToyDisk

@@ -40,16 +40,16 @@ abbrev pub IsPassed : Key → ℕ → Key → Mark → Type 0
 IsPassed at since end m = since < m.id → IsBefore at (mark_key m) → IsFrom end (mark_key m)
 
 -- an extent that is kept in memory
-abbrev pub extent_of : Held → Extent
-extent_of h = record { at = h.at; len = length h.bytes.items; bytes = h.bytes.items; refs = h.refs }
+abbrev pub extent_of_held : Held → Extent
+extent_of_held h = record { at = h.at; len = length h.bytes.items; bytes = h.bytes.items; refs = h.refs }
 
 -- what a store in memory tells of an extent: its length and its number of references
-abbrev pub told_of : Extent → ℕ × ℕ
-told_of x = (x.len, x.refs)
+abbrev pub length_and_references : Extent → ℕ × ℕ
+length_and_references x = (x.len, x.refs)
 
 -- the extents that are kept in memory
 abbrev pub extents_of : List Held → List Extent
-extents_of = map extent_of
+extents_of = map extent_of_held
 
 -- the extents end by byte `next` of the volume
 abbrev pub EndBy : ℕ → List Extent → Type 0

@@ -24,7 +24,7 @@ impl ExtentList {
     ghost use Rattle.hm_types.specs.Offset.{zone_of};
     ghost use Rattle.hm_types.specs.Space.{IsPayloadZone, rounded};
     ghost use Rattle.hm_key.specs.Extents.{PlacesAt, extent_at, shared_at, given_back_at};
-    ghost use Rattle.hm_key.specs.Memory.{extents_of, told_of, IsAt};
+    ghost use Rattle.hm_key.specs.Memory.{extents_of, length_and_references, IsAt};
 
     /// Takes no memory.
     pub fn new(alloc: Global) -> ExtentList
@@ -39,7 +39,7 @@ impl ExtentList {
 
     /// The length in bytes of the extent at `at`, and how many references it has.
     pub fn extent(&self, at: HOff) -> Option<(usize, u32)>
-        ensures { result ≡ option_map told_of (extent_at at (extents_of self.now.list.items)) }
+        ensures { result ≡ option_map length_and_references (extent_at at (extents_of self.now.list.items)) }
     {
         for held in &self.list {
             if held.at == at {

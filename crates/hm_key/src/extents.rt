@@ -1,11 +1,12 @@
 // The live extents of a store, and its space.
-ghost use Rattle.std.specs.Prelude.{◌≡◌, ◌+◌, ℕ, ◌<◌, ◌≤◌, List, Option, is_some, length, take};
-ghost use Rattle.std.specs.Prelude.{IfSome, IsSomeAnd, IfOk, OnOk, IfErr};
+ghost use Rattle.std.specs.Prelude.{◌≡◌, ◌+◌, ℕ, ◌<◌, ◌≤◌, List, Option, is_some, length, take, IfSome, IsSomeAnd};
+ghost use Rattle.std.specs.Prelude.{IfOk, OnOk, IfErr};
 ghost use Rattle.hm_types.specs.Faults.{HasStoreCause, HasAdmitCause};
-ghost use Rattle.hm_types.specs.Space.{IsPayloadZone, Spends, nothing, in_zone, rounded};
+ghost use Rattle.hm_types.specs.Space.{IsPayloadZone, nothing, in_zone, rounded};
 ghost use Rattle.hm_key.specs.Calls.{Admission, Placement};
 ghost use Rattle.hm_key.specs.Extents.{AreExtents, extent_at, shared_at, given_back_at};
-ghost use Rattle.hm_key.specs.Stores.{Keeps, Same, ExtentsChange};
+ghost use Rattle.hm_key.specs.Stores.{ExtentsChange};
+ghost use Rattle.hm_key.specs.Members.{IsSame, KeepsTold, SpendsAtMost};
 
 use crate::room::HasRoom;
 use crate::store::HasElements;
@@ -25,7 +26,7 @@ pub trait Extents: HasElements {
     fn admit(&mut self, zones: Zones, held: u32) -> Result<(), SpaceFault>
         ensures answers { Admission Self.elements Self.mark Self.extents Self.room Self.free
             zones held self.old self.new result }
-        ensures keeps { Keeps Self.elements Self.extents self.old self.new result }
+        ensures keeps { KeepsTold Self.HasElements self.old self.new result }
         ensures name { Self.name self.new ≡ Self.name self.old }
         ensures frame { Self.frame self.new ≡ Self.frame self.old }
         ensures cause { HasAdmitCause (Self.extents self.old)
@@ -37,7 +38,7 @@ pub trait Extents: HasElements {
             IsSomeAnd (extent_at at xs) (λ x. length buf.old ≤ x.len)) }
         ensures ok { IfSome (Self.extents self.old) (λ xs.
             IfSome (extent_at at xs) (λ x. OnOk result (buf.new ≡ take (length buf.old) x.bytes))) }
-        ensures keeps { Same Self.elements Self.mark Self.extents Self.room Self.free
+        ensures keeps { IsSame Self.HasElements
             self.old self.new }
         ensures name { Self.name self.new ≡ Self.name self.old }
         ensures frame { Self.frame self.new ≡ Self.frame self.old }
@@ -52,9 +53,9 @@ pub trait Extents: HasElements {
         requires room { rounded (length bytes.now) ≤ Self.room self.old zone }
         ensures ok { IfOk result
             (Placement Self.elements Self.mark Self.extents Self.room zone bytes.now self.old self.new) }
-        ensures space { Spends Self.room Self.free (in_zone zone (rounded (length bytes.now)))
+        ensures space { SpendsAtMost Self.HasElements (in_zone zone (rounded (length bytes.now)))
             self.old self.new }
-        ensures keeps { Keeps Self.elements Self.extents self.old self.new result }
+        ensures keeps { KeepsTold Self.HasElements self.old self.new result }
         ensures name { Self.name self.new ≡ Self.name self.old }
         ensures frame { Self.frame self.new ≡ Self.frame self.old }
         ensures cause { HasStoreCause (Self.extents self.old)
@@ -67,8 +68,8 @@ pub trait Extents: HasElements {
             IsSomeAnd (extent_at at xs) (λ x. (x.len ≡ rounded len) × (x.refs < 64))) }
         ensures ok { OnOk result (ExtentsChange Self.elements Self.mark Self.extents
             (λ xs ys. ys ≡ shared_at at xs) self.old self.new) }
-        ensures keeps { Keeps Self.elements Self.extents self.old self.new result }
-        ensures space { Spends Self.room Self.free nothing self.old self.new }
+        ensures keeps { KeepsTold Self.HasElements self.old self.new result }
+        ensures space { SpendsAtMost Self.HasElements nothing self.old self.new }
         ensures name { Self.name self.new ≡ Self.name self.old }
         ensures frame { Self.frame self.new ≡ Self.frame self.old }
         ensures cause { HasStoreCause (Self.extents self.old)
@@ -81,8 +82,8 @@ pub trait Extents: HasElements {
             IsSomeAnd (extent_at at xs) (λ x. x.len ≡ rounded len)) }
         ensures ok { OnOk result (ExtentsChange Self.elements Self.mark Self.extents
             (λ xs ys. ys ≡ given_back_at at xs) self.old self.new) }
-        ensures keeps { Keeps Self.elements Self.extents self.old self.new result }
-        ensures space { Spends Self.room Self.free nothing self.old self.new }
+        ensures keeps { KeepsTold Self.HasElements self.old self.new result }
+        ensures space { SpendsAtMost Self.HasElements nothing self.old self.new }
         ensures name { Self.name self.new ≡ Self.name self.old }
         ensures frame { Self.frame self.new ≡ Self.frame self.old }
         ensures cause { HasStoreCause (Self.extents self.old)

@@ -1,9 +1,8 @@
 // Work on a store that is done in units.
 ghost use Rattle.std.specs.Prelude.{◌≡◌, ℕ, Bool, List, Option, IfOk};
-ghost use Rattle.hm_types.specs.Faults.{HasStoreCause};
-ghost use Rattle.hm_key.specs.Balance.{content_of};
 ghost use Rattle.hm_key.specs.Calls.{KeepsJob, UnitDone};
 ghost use Rattle.hm_key.specs.Job.{HasMoreCause, IfProgress, Place, TellSame};
+ghost use Rattle.hm_key.specs.Members.{HasContentCause};
 
 use crate::extents::Extents;
 use crate::store::ElementStore;
@@ -54,8 +53,7 @@ pub trait Job<T: ElementStore + Extents> {
             (places self.old) store.old store.new result }
         ensures name { T.name store.new ≡ T.name store.old }
         ensures frame { T.frame store.new ≡ T.frame store.old }
-        ensures cause { HasStoreCause (content_of (T.elements store.old) (T.extents store.old))
-            (T.faults store.old) (T.faults store.new) result };
+        ensures cause { HasContentCause T.HasElements store.old store.new result };
 
     /// What it says of a store goes by what that tells of its content, and by its room.
     ghost looks: { (j : Self) (s t : T) → TellSame T.elements T.mark T.extents T.room s t →

@@ -1,7 +1,7 @@
 // A small store on a toy disk: bytes that are committed, and behind them a log of what was changed.
 ghost use Rattle.std.specs.Prelude.{◌≡◌, ◌≤◌, ℕ, IfSome, IfOk, length};
 ghost use Rattle.std.proofs.Props.{props};
-ghost use Rattle.hm_key.specs.LogStore.{IsSafe};
+ghost use Rattle.hm_key.specs.LogStore.{HoldsCommitted};
 
 use crate::base::Base;
 use crate::element::Element;
@@ -24,7 +24,7 @@ pub struct LogStore<D: Disk> {
     pub rooms: Rooms,
     free: u32,
     ghost behind: { length committed.items ≤ next },
-    ghost safe: { IfSome (D.told disk) (IsSafe committed.items size) } by { Prim.hlevel props },
+    ghost safe: { IfSome (D.told disk) (HoldsCommitted committed.items size) } by { Prim.hlevel props },
 }
 
 impl<D: Disk> Counted for LogStore<D> {

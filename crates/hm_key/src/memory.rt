@@ -64,7 +64,7 @@ impl MemStore {
     ghost use Rattle.hm_key.specs.Elements.{element_at};
     ghost use Rattle.hm_key.specs.Extents.{extent_at};
     ghost use Rattle.hm_key.specs.Key.{key_of};
-    ghost use Rattle.hm_key.specs.Memory.{fresh_room, told_of};
+    ghost use Rattle.hm_key.specs.Memory.{fresh_room, length_and_references};
 
     /// An empty store, in which each of the zones 8 to 11 has a fresh append big-block, and `free`
     /// big-blocks are free besides. Takes no memory.
@@ -104,7 +104,7 @@ impl MemStore {
     /// The length in bytes of the live extent at `at`, and how many references it has.
     pub fn extent(&self, at: HOff) -> Option<(usize, u32)>
         ensures { IfSome (⟦<MemStore as HasRoom>⟧.extents self.now)
-            (λ xs. result ≡ option_map told_of (extent_at at xs)) }
+            (λ xs. result ≡ option_map length_and_references (extent_at at xs)) }
     {
         self.extents.extent(at)
     }

@@ -1,14 +1,15 @@
 // A sorted list of elements with a mark for each key.
 ghost use Rattle.std.specs.Prelude.{◌≡◌, ◌⊎◌, ℕ, ◌<◌, ◌≤◌, List, Option, IfSome, IsSome, IsNone, IfOk, OnOk, All};
 ghost use Rattle.hm_types.specs.Elements.{Key};
-ghost use Rattle.hm_types.specs.Faults.{HasStoreCause};
-ghost use Rattle.hm_types.specs.Space.{Spends, nothing, in_zone};
+ghost use Rattle.hm_types.specs.Space.{nothing, in_zone};
 ghost use Rattle.hm_key.specs.Key.{key_of, greatest_key, IsBefore};
 ghost use Rattle.hm_key.specs.Element.{IsElement};
-ghost use Rattle.hm_key.specs.Elements.{IsContent, element_at, first_from, last_to, inserted, removed, with_delete, with_payload, last_id};
+ghost use Rattle.hm_key.specs.Elements.{IsContent, element_at, first_from, last_to, last_id, inserted, removed};
+ghost use Rattle.hm_key.specs.Elements.{with_delete, with_payload};
 ghost use Rattle.hm_key.specs.Marks.{Marks, MarksJoin, MarksStay, IsQuiet, IsMarked};
-ghost use Rattle.hm_key.specs.Stores.{Keeps, Same, ElementsChange, IsFound, IsFoundTo, IsEnd};
+ghost use Rattle.hm_key.specs.Stores.{ElementsChange, IsFound, IsFoundTo, IsEnd};
 ghost use Rattle.hm_key.specs.declared.element.Element.{Element};
+ghost use Rattle.hm_key.specs.Members.{HasElementsCause, IsSame, KeepsTold, SpendsAtMost};
 
 use crate::base::Base;
 use crate::element::Element;
@@ -46,24 +47,22 @@ pub trait ElementStore: HasElements {
         ensures ok { IfSome (Self.elements self.old) (λ es.
             IfOk result (λ found. found ≡ first_from (key_of at.now) es)) }
         ensures found { IfOk result (λ found. IfSome found (IsFound (key_of at.now))) }
-        ensures keeps { Same Self.elements Self.mark Self.extents Self.room Self.free
+        ensures keeps { IsSame Self.HasElements
             self.old self.new }
         ensures name { Self.name self.new ≡ Self.name self.old }
         ensures frame { Self.frame self.new ≡ Self.frame self.old }
-        ensures cause { HasStoreCause (Self.elements self.old)
-            (Self.faults self.old) (Self.faults self.new) result };
+        ensures cause { HasElementsCause Self.HasElements self.old self.new result };
 
     /// The last element at the key of `at` or before it, and None where no element is there.
     fn last_at_or_before(&mut self, at: &Base) -> Result<Option<Element>, Fault>
         ensures ok { IfSome (Self.elements self.old) (λ es.
             IfOk result (λ found. found ≡ last_to (key_of at.now) es)) }
         ensures found { IfOk result (λ found. IfSome found (IsFoundTo (key_of at.now))) }
-        ensures keeps { Same Self.elements Self.mark Self.extents Self.room Self.free
+        ensures keeps { IsSame Self.HasElements
             self.old self.new }
         ensures name { Self.name self.new ≡ Self.name self.old }
         ensures frame { Self.frame self.new ≡ Self.frame self.old }
-        ensures cause { HasStoreCause (Self.elements self.old)
-            (Self.faults self.old) (Self.faults self.new) result };
+        ensures cause { HasElementsCause Self.HasElements self.old self.new result };
 
     /// Adds an element, at whose key there is none. Takes at most 40,960 bytes of zone 8, which
     /// must have so much room.
@@ -74,13 +73,12 @@ pub trait ElementStore: HasElements {
         requires room { INSERT_ROOM ≤ Self.room self.old TREE_ZONE }
         ensures ok { OnOk result (ElementsChange Self.elements Self.mark Self.extents
             (inserted e.now) (Marks (key_of e.now.base) (last_id e.now)) self.old self.new) }
-        ensures keeps { Keeps Self.elements Self.extents self.old self.new result }
-        ensures space { Spends Self.room Self.free (in_zone TREE_ZONE INSERT_ROOM)
+        ensures keeps { KeepsTold Self.HasElements self.old self.new result }
+        ensures space { SpendsAtMost Self.HasElements (in_zone TREE_ZONE INSERT_ROOM)
             self.old self.new }
         ensures name { Self.name self.new ≡ Self.name self.old }
         ensures frame { Self.frame self.new ≡ Self.frame self.old }
-        ensures cause { HasStoreCause (Self.elements self.old)
-            (Self.faults self.old) (Self.faults self.new) result };
+        ensures cause { HasElementsCause Self.HasElements self.old self.new result };
 
     /// Closes the element at the key of `at` at the id `delete`, or opens it where that is 0.
     fn set_delete(&mut self, at: &Base, delete: u64) -> Result<(), Fault>
@@ -89,12 +87,11 @@ pub trait ElementStore: HasElements {
         requires later { (delete ≡ 0) ⊎ (at.now.create < delete) }
         ensures ok { OnOk result (ElementsChange Self.elements Self.mark Self.extents
             (with_delete (key_of at.now) delete) (Marks (key_of at.now) delete) self.old self.new) }
-        ensures keeps { Keeps Self.elements Self.extents self.old self.new result }
-        ensures space { Spends Self.room Self.free nothing self.old self.new }
+        ensures keeps { KeepsTold Self.HasElements self.old self.new result }
+        ensures space { SpendsAtMost Self.HasElements nothing self.old self.new }
         ensures name { Self.name self.new ≡ Self.name self.old }
         ensures frame { Self.frame self.new ≡ Self.frame self.old }
-        ensures cause { HasStoreCause (Self.elements self.old)
-            (Self.faults self.old) (Self.faults self.new) result };
+        ensures cause { HasElementsCause Self.HasElements self.old self.new result };
 
     /// Takes the element at the key of `at` out of the list. Its payload's extent stays.
     fn remove(&mut self, at: &Base) -> Result<(), Fault>
@@ -102,12 +99,11 @@ pub trait ElementStore: HasElements {
             IsSome (element_at (key_of at.now) es)) }
         ensures ok { OnOk result (ElementsChange Self.elements Self.mark Self.extents
             (removed (key_of at.now)) (MarksJoin (key_of at.now)) self.old self.new) }
-        ensures keeps { Keeps Self.elements Self.extents self.old self.new result }
-        ensures space { Spends Self.room Self.free nothing self.old self.new }
+        ensures keeps { KeepsTold Self.HasElements self.old self.new result }
+        ensures space { SpendsAtMost Self.HasElements nothing self.old self.new }
         ensures name { Self.name self.new ≡ Self.name self.old }
         ensures frame { Self.frame self.new ≡ Self.frame self.old }
-        ensures cause { HasStoreCause (Self.elements self.old)
-            (Self.faults self.old) (Self.faults self.new) result };
+        ensures cause { HasElementsCause Self.HasElements self.old self.new result };
 
     /// Lets the payload of the element at the key of `at` stand at `to`. No extent changes.
     fn readdress(&mut self, at: &Base, to: HOff) -> Result<(), Fault>
@@ -115,12 +111,11 @@ pub trait ElementStore: HasElements {
             IsSome (element_at (key_of at.now) es)) }
         ensures ok { OnOk result (ElementsChange Self.elements Self.mark Self.extents
             (with_payload (key_of at.now) to) MarksStay self.old self.new) }
-        ensures keeps { Keeps Self.elements Self.extents self.old self.new result }
-        ensures space { Spends Self.room Self.free nothing self.old self.new }
+        ensures keeps { KeepsTold Self.HasElements self.old self.new result }
+        ensures space { SpendsAtMost Self.HasElements nothing self.old self.new }
         ensures name { Self.name self.new ≡ Self.name self.old }
         ensures frame { Self.frame self.new ≡ Self.frame self.old }
-        ensures cause { HasStoreCause (Self.elements self.old)
-            (Self.faults self.old) (Self.faults self.new) result };
+        ensures cause { HasElementsCause Self.HasElements self.old self.new result };
 
     /// How far from the key of `at` on nothing was written after `since`: a boundary after that
     /// key, before which the marks of all keys are at most `since`. None exactly where the mark of
@@ -130,12 +125,11 @@ pub trait ElementStore: HasElements {
         ensures ok { IfSome (Self.elements self.old) (λ _.
             IfOk result (IsQuiet (Self.mark self.old) (key_of at.now) since.0)) }
         ensures found { IfOk result (λ end. IfSome end (IsEnd (key_of at.now))) }
-        ensures keeps { Same Self.elements Self.mark Self.extents Self.room Self.free
+        ensures keeps { IsSame Self.HasElements
             self.old self.new }
         ensures name { Self.name self.new ≡ Self.name self.old }
         ensures frame { Self.frame self.new ≡ Self.frame self.old }
-        ensures cause { HasStoreCause (Self.elements self.old)
-            (Self.faults self.old) (Self.faults self.new) result };
+        ensures cause { HasElementsCause Self.HasElements self.old self.new result };
 
     /// Told elements are in the order of their keys, and each may stand in a leaf.
     ghost sorted: { (s : Self) → IfSome (Self.elements s) IsContent };

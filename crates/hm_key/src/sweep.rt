@@ -1,12 +1,11 @@
 // A plain job, written from the traits alone: it shows that `Job` can be met.
 ghost use Rattle.std.specs.Prelude.{◌≡◌, ◌↔◌, IfSome, IfOk, OnOk, IsTrue, false, None, Some};
-ghost use Rattle.hm_types.specs.Faults.{HasStoreCause};
-ghost use Rattle.hm_types.specs.Space.{Spends, nothing};
-ghost use Rattle.hm_key.specs.Balance.{Balanced, content_of};
+ghost use Rattle.hm_types.specs.Space.{nothing};
+ghost use Rattle.hm_key.specs.Balance.{Balanced};
 ghost use Rattle.hm_key.specs.Elements.{element_at};
 ghost use Rattle.hm_key.specs.Key.{key_of};
-ghost use Rattle.hm_key.specs.Stores.{Keeps};
 ghost use Rattle.hm_key.specs.Sweep.{carried, keeps_one, place_from, IsOver, Clears, NoneFrom};
+ghost use Rattle.hm_key.specs.Members.{HasContentCause, InBalance, KeepsTold, SpendsAtMost};
 
 use crate::base::{Base, ELEMENT};
 use crate::element::{Element, is_element};
@@ -41,9 +40,9 @@ impl Sweep {
 }
 
 impl<T: ElementStore + Extents> Job<T> for Sweep {
-    ghost fits = { λ _ s. Balanced (T.elements s) (T.extents s) };
+    ghost fits = { λ _ s. InBalance T.HasElements s };
 
-    ghost goes = { λ _ s. Balanced (T.elements s) (T.extents s) };
+    ghost goes = { λ _ s. InBalance T.HasElements s };
 
     ghost ends = { λ j s. IfSome (T.elements s) (NoneFrom j.from) };
 
@@ -75,17 +74,16 @@ fn clear<T: ElementStore + Extents>(
     element: &Element,
     is_over: bool,
 ) -> Result<(), Fault>
-    requires balanced { Balanced (T.elements store.old) (T.extents store.old) }
+    requires balanced { InBalance T.HasElements store.old }
     requires there { IfSome (T.elements store.old) (λ es.
         element_at (key_of element.now.base) es ≡ Some element.now) }
     ensures ok { OnOk result (Clears T.elements T.mark T.extents is_over element.now
         store.old store.new) }
-    ensures keeps { Keeps T.elements T.extents store.old store.new result }
+    ensures keeps { KeepsTold T.HasElements store.old store.new result }
     ensures name { T.name store.new ≡ T.name store.old }
     ensures frame { T.frame store.new ≡ T.frame store.old }
-    ensures space { Spends T.room T.free nothing store.old store.new }
-    ensures cause { HasStoreCause (content_of (T.elements store.old) (T.extents store.old))
-        (T.faults store.old) (T.faults store.new) result }
+    ensures space { SpendsAtMost T.HasElements nothing store.old store.new }
+    ensures cause { HasContentCause T.HasElements store.old store.new result }
 {
     if !is_over {
         return Ok(());

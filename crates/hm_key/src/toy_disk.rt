@@ -2,7 +2,7 @@
 ghost use Rattle.std.specs.Prelude.{◌≡◌, ℕ, ◌<◌, ◌≤◌, refl, List, Option, Some, IfSome, IfOk, OnOk, OnErr, length, slice_index};
 ghost use Rattle.hm_types.specs.Faults.{HasCause, Rose};
 ghost use Rattle.hm_types.specs.Told.{BothTell};
-ghost use Rattle.hm_key.specs.ToyDisk.{Told, MayLeave, MayBeBegun, Synced, Written};
+ghost use Rattle.hm_key.specs.ToyDisk.{ToyTold, ToyMayLeave, MayBeBegun, ToySynced, ToyWritten};
 
 use hm_types::Failed;
 
@@ -11,7 +11,7 @@ use hm_types::Failed;
 /// write keeps it.
 pub trait Disk {
     /// What the disk holds, where it tells that.
-    ghost told: { Self → Option Told };
+    ghost told: { Self → Option ToyTold };
 
     /// Which images a crash at that moment or at any later one may have left.
     ghost left_since: { Self → ℕ → List ℕ → Type 0 };
@@ -28,12 +28,12 @@ pub trait Disk {
 
     fn write_at(&mut self, place: u64, byte: u8) -> Result<(), Failed>
         requires within { IfSome (told self.old) (λ t. place < length t.bytes) }
-        ensures ok { OnOk result (BothTell (told self.old) (told self.new) (Written place byte)) }
+        ensures ok { OnOk result (BothTell (told self.old) (told self.new) (ToyWritten place byte)) }
         ensures begun { BothTell (told self.old) (told self.new) (MayBeBegun place) }
         ensures cause { HasCause (faults self.old) (faults self.new) result };
 
     fn sync(&mut self) -> Result<(), Failed>
-        ensures ok { OnOk result (BothTell (told self.old) (told self.new) Synced) }
+        ensures ok { OnOk result (BothTell (told self.old) (told self.new) ToySynced) }
         ensures err { OnErr result (told self.new ≡ told self.old) }
         ensures cause { HasCause (faults self.old) (faults self.new) result };
 
@@ -42,11 +42,11 @@ pub trait Disk {
 
     /// What a crash now may leave counts as left since each moment up to now.
     ghost counts_now: { (disk : Self) (moment : ℕ) (image : List ℕ) → IfSome (told disk) (λ t.
-        moment ≤ t.moment → MayLeave t.bytes t.unsettled image → left_since disk moment image) };
+        moment ≤ t.moment → ToyMayLeave t.bytes t.unsettled image → left_since disk moment image) };
 
     /// Since the present moment nothing else was left.
     ghost only_now: { (disk : Self) (image : List ℕ) → IfSome (told disk) (λ t.
-        left_since disk t.moment image → MayLeave t.bytes t.unsettled image) };
+        left_since disk t.moment image → ToyMayLeave t.bytes t.unsettled image) };
 }
 
 /// A toy disk in memory. A worn one takes the byte of a write and answers that it failed. Of moments
@@ -80,7 +80,7 @@ impl Disk for ByteDisk {
     }) };
 
     ghost left_since = { λ d moment image.
-        moment ≡ d.moment → MayLeave d.bytes.items d.unsettled.items image };
+        moment ≡ d.moment → ToyMayLeave d.bytes.items d.unsettled.items image };
 
     ghost faults = { λ d. d.faults };
 

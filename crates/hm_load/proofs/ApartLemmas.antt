@@ -23,7 +23,7 @@ use Rattle.hm_search.proofs.ChildLemmas.{bounds, from_next, later_sorted, place_
 use Rattle.hm_search.proofs.ContentLemmas.{from_left}
 use Rattle.hm_search.proofs.DescentLemmas.{child_lower}
 use Rattle.hm_search.proofs.ReachLemmas.{first_key, first_left_of, first_key_inside, reached_inside}
-use Rattle.hm_load.specs.Held.{IsApart, IsBeside}
+use Rattle.hm_load.specs.Held.{IsApart, IsAboveOrBefore}
 use Rattle.hm_load.specs.Tree.{AddsChildren, AddsNode, IsUnder}
 use Rattle.hm_load.proofs.TreeLemmas.{Keeps, same_there, node_here, node_pages}
 
@@ -41,7 +41,7 @@ most_level (leaf_node leaf) sound = omega arith
 most_level (inner_node inner) sound = sound.level.1
 
 -- a node that is sound at a place is none of those beside it
-pub not_beside : (s : Subtree) (node : Node) → IsNode node → Fits s node → IsBeside s node → ⊥
+pub not_beside : (s : Subtree) (node : Node) → IsNode node → Fits s node → IsAboveOrBefore s node → ⊥
 not_beside s node sound fits (inl high) = by_parent s.parent fits.level high where
   by_parent : (p : Option Parent) → FitsLevel p node → levels_under p ≤ level_of node → ⊥
   by_parent None level high = let low = most_level node sound in omega arith
@@ -94,7 +94,7 @@ module _ (s : Subtree) (inner : Inner) (i : ℕ) (child : Subtree) (old start ma
       subst (λ (p : Subtree). IsFrom (key_of s.left) (key_of p.left)) (sym at.place)
       (left_of_each (λ b. IsFrom (key_of s.left) (key_of b)) inner.right inner.places.items i at.child at.is each)
 
-  widen : (node : Node) → IsBeside s node → IsBeside child node
+  widen : (node : Node) → IsAboveOrBefore s node → IsAboveOrBefore child node
   widen node (inl high) = inl (omega (arith, lower))
   widen node (inr (below, before)) = inr (parent_is, key_before_from (first_key node) (key_of s.left) (key_of child.left) before left_from)
 

@@ -7,7 +7,7 @@ use Rattle.hm_fields.specs.Fields.{AreBytes, get}
 use Rattle.hm_freemap.specs.Layer1.{HoldsLayer1, IsLayer1, layer1_bytes, layer1_of}
 use Rattle.hm_freemap.proofs.SpellLemmas.{layer1_back, layer1_held, layer1_spelled}
 use Rattle.hm_load.specs.Faults.{IsFirstBad}
-use Rattle.hm_load.specs.Layer1.{HasLayer1Entry, HasOffset, HasZeros, IsInPiece, IsLayer1Damage, layer1_page}
+use Rattle.hm_load.specs.Layer1.{HasLayer1Entry, HasOffset, HasThreeZeros, IsInPiece, IsLayer1Damage, layer1_page}
 use Rattle.hm_load.specs.Reading.{volume_bytes}
 use Rattle.hm_load.proofs.RangeLemmas.{part_read}
 
@@ -26,7 +26,7 @@ are_bytes bytes small k = omega (arith, small k)
 
 -- bytes are an entry's exactly where their first word is its offset, and the others are zeros
 module _ (bytes : List ℕ) (at bigblocks i : ℕ) (size : bigblocks ≤ 1048576) where
-  pub words_of : ((k : ℕ) → slice_index bytes k < 256) → at + 32 ≤ length bytes → get bytes at 8 ≡ layer1_of bigblocks i → HasZeros bytes (at + 8)
+  pub words_of : ((k : ℕ) → slice_index bytes k < 256) → at + 32 ≤ length bytes → get bytes at 8 ≡ layer1_of bigblocks i → HasThreeZeros bytes (at + 8)
       → HasOffset bytes at bigblocks i
   words_of small long raw zeros =
       let two : get bytes (at + 16) 8 ≡ 0 = ap (λ (n : ℕ). get bytes n 8) (omega arith) ∙ zeros.1 in
@@ -38,7 +38,7 @@ module _ (bytes : List ℕ) (at bigblocks i : ℕ) (size : bigblocks ≤ 1048576
   pub offset_word : HasOffset bytes at bigblocks i → get bytes at 8 ≡ layer1_of bigblocks i
   offset_word has = layer1_back bytes at (layer1_of bigblocks i) (layer1_is bigblocks i size) has
 
-  pub zero_words : HasOffset bytes at bigblocks i → HasZeros bytes (at + 8)
+  pub zero_words : HasOffset bytes at bigblocks i → HasThreeZeros bytes (at + 8)
   zero_words has =
       let zero = (layer1_held bytes at (layer1_of bigblocks i) (layer1_is bigblocks i size) has).zero in (
         zero.0,

@@ -18,7 +18,7 @@ use Rattle.hm_load.specs.Damage.IsTreeDamage.{of_node, of_payload, of_child}
 use Rattle.hm_load.specs.Faults.{IsFirstBad}
 use Rattle.hm_load.specs.Freemap.{IsLayer2Damage, layer2_page}
 use Rattle.hm_load.specs.Layer1.{IsLayer1Damage, layer1_page}
-use Rattle.hm_load.specs.Payload.{IsPayloadDamage}
+use Rattle.hm_load.specs.Payload.{IsFirstBadPayload}
 use Rattle.hm_load.proofs.SoundLemmas.{no_tree_damage}
 
 -- a whole volume has no damage
@@ -60,8 +60,8 @@ layer2_once image header a k b l one other =
     let same = first_once _ one.number other.number one.first other.first in
     (one.place ∙ (ap layer2_page same ∙ sym other.place), one.told ∙ sym other.told)
 
-payload_once : (image : List ℕ) (bigblocks : ℕ) (es : List Element) (a k b l : ℕ) → IsPayloadDamage image bigblocks es a k
-    → IsPayloadDamage image bigblocks es b l → AreOne a k b l
+payload_once : (image : List ℕ) (bigblocks : ℕ) (es : List Element) (a k b l : ℕ) → IsFirstBadPayload image bigblocks es a k
+    → IsFirstBadPayload image bigblocks es b l → AreOne a k b l
 payload_once image bigblocks es a k b l one other = elim (cases_lt one.i other.i) [
   | inl below ↦ absurd (one.bad (other.before one.i one.element below one.is))
   | inr from ↦ elim (cases_lt other.i one.i) [
@@ -79,7 +79,7 @@ module _ (image : List ℕ) (bigblocks : ℕ) where
   record InLeaf (s : Subtree) (at kind : ℕ) : Type 0 where
     leaf : Leaf
     spells : SpellsHere s (volume_page image bigblocks s.at) (leaf_node leaf)
-    damage : IsPayloadDamage image bigblocks leaf.places.items at kind
+    damage : IsFirstBadPayload image bigblocks leaf.places.items at kind
 
   record InChild (s : Subtree) (at kind : ℕ) : Type 0 where
     inner : Inner
@@ -115,7 +115,7 @@ module _ (image : List ℕ) (bigblocks : ℕ) where
         let both = one_node s (leaf_node second.leaf) (leaf_node leaf) second.spells spells in
         let same : second.leaf ≡ leaf = cc in
         payload_once image bigblocks leaf.places.items a k b l damage
-        (subst (λ (x : Leaf). IsPayloadDamage image bigblocks x.places.items b l) same second.damage)
+        (subst (λ (x : Leaf). IsFirstBadPayload image bigblocks x.places.items b l) same second.damage)
     by_parts (inr (inr inner)) = let both = one_node s (leaf_node leaf) (inner_node inner.inner) spells inner.spells in absurd cc
   tree_once a k b l _ (of_child s inner i child spells get before damage) other = by_parts (λ d. tree_once a k b l child damage d) (parts b l s other) where
     by_parts : (IsTreeDamage image bigblocks b l child → AreOne a k b l) → IsNodeDamage image bigblocks s b l ⊎ InLeaf s b l ⊎ InChild s b l → AreOne a k b l

@@ -16,7 +16,7 @@ use Rattle.hm_records.specs.Target.{IsTarget}
 use Rattle.hm_records.specs.declared.entry.DirEntry.{DirEntry}
 use Rattle.hm_records.proofs.EntryLemmas.{one_entry}
 use Rattle.hm_records.proofs.PayloadLemmas.{payload_short}
-use Rattle.hm_load.specs.Payload.{HasPayload, IsEntryAt, IsOfRead, IsPayloadOf, with_bytes}
+use Rattle.hm_load.specs.Payload.{HasPayload, IsEntryAt, IsOfRead, IsPayloadOf, with_payload_bytes}
 use Rattle.hm_load.proofs.TreeLemmas.{each_of}
 use Rattle.hm_load.specs.Reading.{volume_bytes}
 
@@ -106,7 +106,7 @@ module _ (e : Element) (bytes : List ℕ) where
   no_payload none holds = none holds.payload.known
 
   pub long_payload : 65568 < length bytes → IsPayloadOf e bytes → ⊥
-  long_payload long holds = let short = payload_short (with_bytes e bytes) holds.payload in omega (arith, short.1, long)
+  long_payload long holds = let short = payload_short (with_payload_bytes e bytes) holds.payload in omega (arith, short.1, long)
 
 -- how many bytes are read
 pub volume_long : (image : List ℕ) (bigblocks place len : ℕ) → start_of bigblocks ≤ length image → length (volume_bytes image bigblocks place len) ≡ len

@@ -15,7 +15,7 @@ use Rattle.hm_search.specs.Place.{IsLowestBroken, SpellsHere, TellsDamage}
 use Rattle.hm_search.specs.declared.subtree.Subtree.{Subtree}
 use Rattle.hm_load.specs.Damage.{IsNodeDamage, volume_page}
 use Rattle.hm_load.specs.Faults.{Tells}
-use Rattle.hm_load.specs.Held.{AreRead, IsApart, IsBeside, IsRead}
+use Rattle.hm_load.specs.Held.{AreRead, IsApart, IsAboveOrBefore, IsRead}
 use Rattle.hm_load.proofs.ApartLemmas.{not_beside}
 use Rattle.hm_load.proofs.NodeLemmas.{zero_no_node}
 use Rattle.hm_load.proofs.StoreLemmas.{set_here, set_other}
@@ -39,7 +39,7 @@ module _ (image : List ℕ) (bigblocks : ℕ) (s : Subtree) (node : Node) (read 
     go (Some page) is there =
         let one : page ≡ read = (pages s.at page is).same ∙ sym same in
         let mine : node_in page ≡ node = ap node_in one ∙ here.spelled.value in
-        not_beside s node here.sound here.fits (subst (λ (n : Node). IsBeside s n) mine (apart s.at page is offset.zone))
+        not_beside s node here.sound here.fits (subst (λ (n : Node). IsAboveOrBefore s n) mine (apart s.at page is offset.zone))
 
   -- its page comes to those of the volume
   pub node_read : (new : PageMap) → (start_of bigblocks ≤ byte_of s.at → read ≡ replicate PAGE_BYTES 0) → new ≡ set_at s.at (Some read) old

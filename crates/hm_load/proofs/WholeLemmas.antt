@@ -22,7 +22,7 @@ use Rattle.hm_load.specs.Damage.{IsNodeDamage, IsTreeDamage, IsWholeBelow, eleme
 use Rattle.hm_load.specs.Damage.IsTreeDamage.{of_node, of_payload, of_child}
 use Rattle.hm_load.specs.Faults.{Tells}
 use Rattle.hm_load.specs.Held.{AreRead, AreReadFirst, IsReadBelow}
-use Rattle.hm_load.specs.Payload.{HasPayload, IsPayloadDamage}
+use Rattle.hm_load.specs.Payload.{HasPayload, IsFirstBadPayload}
 use Rattle.hm_load.specs.Tree.{AddsChildren, AddsNode, AddsTree, HasTreeAt}
 use Rattle.hm_load.proofs.TreeLemmas.{Keeps, child_height, elements_kept, each_of, node_here, tree_kept}
 
@@ -128,7 +128,7 @@ node_damage image bigblocks s NoMemory tells = tt
 node_damage image bigblocks s (Damaged at kind) tells = of_node s tells
 
 pub leaf_damage : (image : List ℕ) (bigblocks : ℕ) (s : Subtree) (leaf : Leaf) (old new : PageMap) (fault : Fault) → AddsNode s (leaf_node leaf) old new
-    → AreRead image bigblocks new → Tells (IsPayloadDamage image bigblocks leaf.places.items) fault → Tells
+    → AreRead image bigblocks new → Tells (IsFirstBadPayload image bigblocks leaf.places.items) fault → Tells
     (λ at kind. IsTreeDamage image bigblocks at kind s) fault
 leaf_damage image bigblocks s leaf old new (Media before after) adds pages tells = tt
 leaf_damage image bigblocks s leaf old new NoMemory adds pages tells = tt

@@ -16,7 +16,7 @@ use Rattle.hm_search.specs.Tree.{children_of, elements_in, height_of, node_at, r
 use Rattle.hm_search.specs.declared.subtree.Subtree.{Subtree}
 use Rattle.hm_load.specs.Freemap.{HoldsEntries, IsLayer2Damage, layer2_bytes, layer2_pages}
 use Rattle.hm_load.specs.Layer1.{IsLayer1Damage}
-use Rattle.hm_load.specs.Payload.{HasPayload, IsPayloadDamage}
+use Rattle.hm_load.specs.Payload.{HasPayload, IsFirstBadPayload}
 use Rattle.hm_load.specs.Reading.{volume_bytes}
 use Rattle.hm_load.specs.Tree.{HasTreeAt}
 
@@ -45,7 +45,7 @@ pub record IsNodeDamage (image : List ℕ) (bigblocks : ℕ) (s : Subtree) (at k
 pub data IsTreeDamage (image : List ℕ) (bigblocks at kind : ℕ) : Subtree → Type 0 where
   of_node : (s : Subtree) → IsNodeDamage image bigblocks s at kind → IsTreeDamage image bigblocks at kind s
   of_payload : (s : Subtree) (leaf : Leaf) → SpellsHere s (volume_page image bigblocks s.at) (leaf_node leaf)
-      → IsPayloadDamage image bigblocks leaf.places.items at kind → IsTreeDamage image bigblocks at kind s
+      → IsFirstBadPayload image bigblocks leaf.places.items at kind → IsTreeDamage image bigblocks at kind s
   of_child : (s : Subtree) (inner : Inner) (i : ℕ) (child : Subtree) → SpellsHere s (volume_page image bigblocks s.at) (inner_node inner)
       → slice_get (children_of inner) i ≡ Some child
       → ((j : ℕ) (c : Subtree) → j < i → slice_get (children_of inner) j ≡ Some c → IsWholeBelow image bigblocks c)

@@ -48,12 +48,12 @@ pub record AreReadFirst (image : List ℕ) (bigblocks : ℕ) (inner : Inner) (co
       → AllByRecursion (HasPayload image bigblocks) (elements_at map child)
 
 -- a node stands above a place, or before it
-abbrev pub IsBeside : Subtree → Node → Type 0
-IsBeside s node = (levels_below s ≤ level_of node) ⊎ ((s.parent ≢ None) × IsBefore (first_key node) (key_of s.left))
+abbrev pub IsAboveOrBefore : Subtree → Node → Type 0
+IsAboveOrBefore s node = (levels_below s ≤ level_of node) ⊎ ((s.parent ≢ None) × IsBefore (first_key node) (key_of s.left))
 
 -- so does each node that came
 abbrev pub IsApart : Subtree → PageMap → Type 0
-IsApart s map = (at : ℕ) (page : List ℕ) → map at ≡ Some page → zone_of at ≡ TREE_ZONE → IsBeside s (node_in page)
+IsApart s map = (at : ℕ) (page : List ℕ) → map at ≡ Some page → zone_of at ≡ TREE_ZONE → IsAboveOrBefore s (node_in page)
 
 -- both layers were read, and no damage is in them
 pub record HasFreemap (image : List ℕ) (header : Header) (map : PageMap) : Type 0 where

@@ -16,8 +16,8 @@ abbrev pub HasOffset : List ℕ → ℕ → ℕ → ℕ → Type 0
 HasOffset bytes at bigblocks i = slice_range bytes at (at + 32) ≡ layer1_bytes (layer1_of bigblocks i)
 
 -- bytes have three words of zeros from a place on
-abbrev pub HasZeros : List ℕ → ℕ → Type 0
-HasZeros bytes at = (get bytes at 8 ≡ 0) × (get bytes (at + 8) 8 ≡ 0) × (get bytes (at + 16) 8 ≡ 0)
+abbrev pub HasThreeZeros : List ℕ → ℕ → Type 0
+HasThreeZeros bytes at = (get bytes at 8 ≡ 0) × (get bytes (at + 8) 8 ≡ 0) × (get bytes (at + 16) 8 ≡ 0)
 
 -- a volume has this entry of layer 1
 abbrev pub HasLayer1Entry : List ℕ → ℕ → ℕ → Type 0

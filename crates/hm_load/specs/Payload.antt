@@ -13,12 +13,12 @@ use Rattle.hm_records.specs.declared.entry.DirEntry.{DirEntry}
 use Rattle.hm_load.specs.Reading.{volume_bytes}
 
 -- an element with the bytes of its payload
-abbrev pub with_bytes : Element → List ℕ → FullElement
-with_bytes e bytes = record { key = element_key e; delete = e.base.delete; obj_type = e.base.obj_type; bytes = bytes }
+abbrev pub with_payload_bytes : Element → List ℕ → FullElement
+with_payload_bytes e bytes = record { key = element_key e; delete = e.base.delete; obj_type = e.base.obj_type; bytes = bytes }
 
 -- these bytes may be the payload of an element, and the key of a directory entry fits its name
 pub record IsPayloadOf (e : Element) (bytes : List ℕ) : Type 0 where
-  pub payload : IsPayload (with_bytes e bytes)
+  pub payload : IsPayload (with_payload_bytes e bytes)
   pub key : (entry : DirEntry) → e.base.rec_type ≡ DIRECTORY_ENTRY → IsEntry entry → bytes ≡ entry_bytes entry → KeyFits name_hash e.base.key entry.name
 
 -- a type of elements whose payload is read
@@ -37,7 +37,7 @@ abbrev pub HasPayload : List ℕ → ℕ → Element → Type 0
 HasPayload image bigblocks e = IsPayloadOf e (volume_bytes image bigblocks (byte_of e.payload) e.len)
 
 -- the first damage of the payloads of some elements
-pub record IsPayloadDamage (image : List ℕ) (bigblocks : ℕ) (es : List Element) (at kind : ℕ) : Type 0 where
+pub record IsFirstBadPayload (image : List ℕ) (bigblocks : ℕ) (es : List Element) (at kind : ℕ) : Type 0 where
   pub i : ℕ
   pub element : Element
   pub is : slice_get es i ≡ Some element

@@ -8,7 +8,7 @@ ghost use Rattle.hm_disk.specs.declared.limits.TheConstants.{MOST_CALL_BYTES};
 ghost use Rattle.hm_fields.specs.Fields.{get};
 ghost use Rattle.hm_image.specs.Sound.{HasLayer1};
 ghost use Rattle.hm_load.specs.Faults.{IsFirstBad, Tells};
-ghost use Rattle.hm_load.specs.Layer1.{HasOffset, HasZeros, IsInPiece, IsLayer1Damage, layer1_page};
+ghost use Rattle.hm_load.specs.Layer1.{HasOffset, HasThreeZeros, IsInPiece, IsLayer1Damage, layer1_page};
 ghost use Rattle.hm_newfs.specs.Steps.{HasSpace};
 ghost use Rattle.hm_load.specs.declared.layer1.TheConstants.{ENTRIES_PER_PIECE};
 
@@ -88,7 +88,7 @@ fn is_entry(bigblocks: u32, i: u32, bytes: &[u8], at: usize) -> bool
 // Whether the 24 bytes from a place on are 0.
 fn are_zeros(bytes: &[u8], at: usize) -> bool
     requires { at + 24 ≤ length bytes.now }
-    ensures { IsTrue result ↔ HasZeros bytes.now at }
+    ensures { IsTrue result ↔ HasThreeZeros bytes.now at }
 {
     word(bytes, at) == 0 && word(bytes, at + 8) == 0 && word(bytes, at + 16) == 0
 }

@@ -7,7 +7,7 @@ ghost use Rattle.hm_key.specs.declared.rec_type.TheConstants.{DIRECTORY_ENTRY, I
 ghost use Rattle.hm_node.specs.Leaf.{IsPlaced};
 ghost use Rattle.hm_records.specs.Payload.{SpellsInode, SpellsPfs};
 ghost use Rattle.hm_load.specs.Faults.{Tells};
-ghost use Rattle.hm_load.specs.Payload.{HasPayload, IsEntryAt, IsOfRead, IsPayloadDamage, IsPayloadOf};
+ghost use Rattle.hm_load.specs.Payload.{HasPayload, IsEntryAt, IsOfRead, IsFirstBadPayload, IsPayloadOf};
 ghost use Rattle.hm_load.specs.Reading.{HasDiskCause};
 ghost use Rattle.hm_newfs.specs.Steps.{HasSpace};
 
@@ -35,7 +35,7 @@ pub(crate) fn check_payloads<D: Disk>(
     ensures ok { OnOk result (IfSome (D.told disk.old) (λ t.
         AllByRecursion (HasPayload t.bytes volume.now.bigblocks) leaf.now.places.items)) }
     ensures damage { IfSome (D.told disk.old) (λ t. IfErr result
-        (Tells (IsPayloadDamage t.bytes volume.now.bigblocks leaf.now.places.items))) }
+        (Tells (IsFirstBadPayload t.bytes volume.now.bigblocks leaf.now.places.items))) }
     ensures same { D.told disk.new ≡ D.told disk.old }
     ensures crashes { D.past disk.new ≡ D.past disk.old }
     ensures cause { HasFaultCause (D.faults disk.old) (D.faults disk.new) result }

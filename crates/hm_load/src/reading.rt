@@ -24,7 +24,8 @@ use hm_types::Fault;
 use std::alloc::Global;
 
 /// Reads every page of both layers of the freemap and the whole tree of a volume into a store of
-/// pages, and each payload to check it. It writes nothing: what a crash may have left stays.
+/// pages, and checks the payloads: each inode, directory entry and record is read; file bytes and
+/// targets are checked by their lengths. It writes nothing: what a crash may have left stays.
 pub fn load<D: Disk>(alloc: Global, disk: &mut D, header: &Header) -> Result<PageStore, Fault>
     requires header { IsHeader header.now }
     requires space { IfSome (D.told disk.old) (HasSpace header.now.bigblocks) }

@@ -44,7 +44,7 @@ AreNumbered versions =
 
 -- A foreign master, of which items were taken: they are a stream over its lists, or a beginning of one, and
 -- where its trees are certain each list shows them as of each id that it keeps, up to the end id.
-pub record IsReadFrom (shows : Shows) (m : ForeignMaster) (items : List Item) : Type 0 where
+pub record IsReadFromMaster (shows : Shows) (m : ForeignMaster) (items : List Item) : Type 0 where
   pub system : PseudoFileSystem
   pub found : system_of m.volume m.master ≡ Some system
   pub role : system.role ≡ Master
@@ -59,7 +59,7 @@ pub record IsReadFrom (shows : Shows) (m : ForeignMaster) (items : List Item) : 
 -- this was taken, and the items are read from its master, where it names one.
 pub record IsFedWith (shows : Shows) (feed : Feed) (items : List Item) : Type 0 where
   pub term : feed.term ≡ end_of_stream items
-  pub master : IfSome feed.master (λ m. IsReadFrom shows m items)
+  pub master : IfSome feed.master (λ m. IsReadFromMaster shows m items)
 
 -- the last of some lists
 abbrev pub last_list : MasterList → List MasterList → MasterList

@@ -65,12 +65,12 @@ last_number (line ∷ []) = line.number
 last_number (line ∷ next ∷ lines) = last_number (next ∷ lines)
 
 -- an entry is of an earlier line of the same lane
-abbrev pub IsBefore : Line → Entry → Type 0
-IsBefore line e = (e.lane ≡ line.lane) × (e.line < line.number)
+abbrev pub IsEarlierInLane : Line → Entry → Type 0
+IsEarlierInLane line e = (e.lane ≡ line.lane) × (e.line < line.number)
 
 -- an entry is of an earlier line of the same lane, or of an earlier block than this one
 abbrev pub IsEarlier : List Line → Line → Entry → Type 0
-IsEarlier block line e = (e.line < first_number block) ⊎ IsBefore line e
+IsEarlier block line e = (e.line < first_number block) ⊎ IsEarlierInLane line e
 
 -- an entry is of a later line of the same lane, or of a later block than this one
 abbrev pub IsLater : List Line → Line → Entry → Type 0
@@ -84,8 +84,8 @@ pub record IsOf (line : Line) (e : Entry) : Type 0 where
   pub command : e.call ≡ line.command
 
 -- a bound is at least the ids of earlier lines
-abbrev pub IsAbove : List Entry → List Line → Line → ℕ → Type 0
-IsAbove history block line bound =
+abbrev pub BoundsEarlier : List Entry → List Line → Line → ℕ → Type 0
+BoundsEarlier history block line bound =
     (e : Entry) → Contains history e → IsEarlier block line e → e.id.0 ≤ bound
 
 -- What a line of `progress` prints: a last id that is at least the ids of earlier lines, and not above that
@@ -97,9 +97,9 @@ pub record IsProgress (history : List Entry) (end : ℕ) (block : List Line) (li
   pub durable : ℕ
   pub printed : text ≡ printed_line (progress_words last durable)
   pub ordered : durable ≤ last
-  pub after : IsAbove history block line last
+  pub after : BoundsEarlier history block line last
   pub by_end : last ≤ end
-  pub told : (e : Entry) → Contains history e → IsBefore line e → boundary_in e.reply ≤ durable
+  pub told : (e : Entry) → Contains history e → IsEarlierInLane line e → boundary_in e.reply ≤ durable
 
 -- a call or an ending has no entry: no id was left, and no later line has an entry
 pub record IsSpent (history : List Entry) (end : ℕ) (block : List Line) (line : Line) : Type 0 where
@@ -108,7 +108,7 @@ pub record IsSpent (history : List Entry) (end : ℕ) (block : List Line) (line 
 
 -- a boundary that a line was told is at least the ids of earlier lines
 abbrev pub KeepsBoundary : List Entry → List Line → Line → Reply → Type 0
-KeepsBoundary history block line reply = IfSome (told_boundary reply) (λ boundary. IsAbove history block line boundary.0)
+KeepsBoundary history block line reply = IfSome (told_boundary reply) (λ boundary. BoundsEarlier history block line boundary.0)
 
 -- The entries of a line: one for its call, and one for the ending of a housekeeping call that was accepted.
 -- Either may lack where no id was left.

@@ -39,7 +39,7 @@ IsClosing end later e id =
     ((e.delete ≢ 0) × (id ≡ e.delete)) ⊎ ((e.delete ≡ 0) × (end < id) × (id ≤ later.mark e.key))
 
 -- an element is gone from a later list: closed at some id, it was dead for what the master now keeps
-pub record IsGone (end : ℕ) (later : MasterList) (e : FullElement) : Type 0 where
+pub record IsGoneFrom (end : ℕ) (later : MasterList) (e : FullElement) : Type 0 where
   pub gone : HasKey later e.key → ⊥
   pub closing : ℕ
   pub closed : IsClosing end later e closing
@@ -48,7 +48,7 @@ pub record IsGone (end : ℕ) (later : MasterList) (e : FullElement) : Type 0 wh
 -- A later list of a master follows an earlier one, while a pass with this end id reads: each element stays or
 -- is gone, each other one was created since, no mark falls, and no id is kept that was not.
 pub record Follows (end : ℕ) (earlier later : MasterList) : Type 0 where
-  pub each : (e : FullElement) → Contains earlier.elements e → Stays end later e ⊎ IsGone end later e
+  pub each : (e : FullElement) → Contains earlier.elements e → Stays end later e ⊎ IsGoneFrom end later e
   pub others : (f : FullElement) → Contains later.elements f → HasKey earlier f.key ⊎ (end < f.key.create)
   pub marks : (key : Key) → earlier.mark key ≤ later.mark key
   pub retention : (id : ℕ) → Keeps later.retention id → Keeps earlier.retention id
@@ -83,22 +83,22 @@ pub data Reached : Type 0 where
   Before : Key → Reached
 
 -- a key is still to come
-abbrev pub IsToCome : Reached → Key → Type 0
-IsToCome NoKey key = Unit {0}
-IsToCome (Past last) key = IsKeyBefore last key
-IsToCome (Before next) key = IsKeyBefore key next → ⊥
+abbrev pub IsYetToCome : Reached → Key → Type 0
+IsYetToCome NoKey key = Unit {0}
+IsYetToCome (Past last) key = IsKeyBefore last key
+IsYetToCome (Before next) key = IsKeyBefore key next → ⊥
 
 -- it is the first of all keys to come
-pub record IsNextKey (reached : Reached) (key : Key) : Type 0 where
-  pub to_come : IsToCome reached key
-  pub first : (other : Key) → IsToCome reached other → IsKeyBefore other key → ⊥
+pub record IsFirstToCome (reached : Reached) (key : Key) : Type 0 where
+  pub to_come : IsYetToCome reached key
+  pub first : (other : Key) → IsYetToCome reached other → IsKeyBefore other key → ⊥
 
 -- an element is the first to come of a list, among those that were created by the end id
 pub record IsNext (end : ℕ) (list : MasterList) (reached : Reached) (e : FullElement) : Type 0 where
   pub has : Contains list.elements e
-  pub to_come : IsToCome reached e.key
+  pub to_come : IsYetToCome reached e.key
   pub created : e.key.create ≤ end
-  pub first : (f : FullElement) → Contains list.elements f → IsToCome reached f.key → f.key.create ≤ end →
+  pub first : (f : FullElement) → Contains list.elements f → IsYetToCome reached f.key → f.key.create ≤ end →
       IsKeyBefore f.key e.key → ⊥
 
 -- an element as it is sent: an id that closed it above the end id is not told
@@ -106,13 +106,13 @@ abbrev pub sent : ℕ → FullElement → Sent
 sent end e = record { key = e.key; delete = if nat_le e.delete end then e.delete else 0; obj_type = e.obj_type }
 
 -- an id above the begin id stands in what is sent
-abbrev pub IsNew : ℕ → Sent → Type 0
-IsNew begin s = (begin < s.key.create) ⊎ (begin < s.delete)
+abbrev pub IsAfterBegin : ℕ → Sent → Type 0
+IsAfterBegin begin s = (begin < s.key.create) ⊎ (begin < s.delete)
 
 -- it begins where the items before have come to, or at the next element
 abbrev pub IsSkipStart : ℕ → MasterList → Reached → Key → Type 0
 IsSkipStart end list reached first =
-    IsNextKey reached first ⊎ ((e : FullElement) × IsNext end list reached e × (e.key ≡ first))
+    IsFirstToCome reached first ⊎ ((e : FullElement) × IsNext end list reached e × (e.key ≡ first))
 
 -- a range of keys in which nothing is new, by the marks of a list
 pub record IsSkip (begin end : ℕ) (list : MasterList) (reached : Reached) (first next : Key) : Type 0 where
@@ -122,7 +122,7 @@ pub record IsSkip (begin end : ℕ) (list : MasterList) (reached : Reached) (fir
 
 -- no element of a list is left to send, and it keeps the end id: its retention is the last item
 pub record IsTerm (end : ℕ) (list : MasterList) (reached : Reached) (retention : List (ℕ × ℕ)) : Type 0 where
-  pub none : (e : FullElement) → Contains list.elements e → IsToCome reached e.key → end < e.key.create
+  pub none : (e : FullElement) → Contains list.elements e → IsYetToCome reached e.key → end < e.key.create
   pub carried : retention ≡ list.retention
   pub kept : Keeps retention end
 
@@ -134,10 +134,10 @@ AreRead begin end reached (item ∷ items) [] = ⊥
 AreRead begin end reached (Begin shared b e ∷ items) (list ∷ lists) = ⊥
 AreRead begin end reached (Rec s bytes ∷ items) (list ∷ lists) =
     ((e : FullElement) × IsNext end list reached e × (s ≡ sent end e) × (bytes ≡ e.bytes))
-    × IsNew begin s × AreRead begin end (Past s.key) items lists
+    × IsAfterBegin begin s × AreRead begin end (Past s.key) items lists
 AreRead begin end reached (Pass s ∷ items) (list ∷ lists) =
     ((e : FullElement) × IsNext end list reached e × (s ≡ sent end e))
-    × (IsNew begin s → ⊥) × AreRead begin end (Past s.key) items lists
+    × (IsAfterBegin begin s → ⊥) × AreRead begin end (Past s.key) items lists
 AreRead begin end reached (Skip first next ∷ items) (list ∷ lists) =
     IsSkip begin end list reached first next × AreRead begin end (Before next) items lists
 AreRead begin end reached (Term retention ∷ items) (list ∷ lists) =

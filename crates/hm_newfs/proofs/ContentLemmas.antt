@@ -10,7 +10,7 @@ use Rattle.hm_header.proofs.SliceLemmas.{slice-kept}
 use Rattle.hm_image.specs.Fresh.{fresh_root}
 use Rattle.hm_image.proofs.OffsetLemmas.{layer2_is, pool_is}
 use Rattle.hm_node.specs.Node.{Spells}
-use Rattle.hm_newfs.specs.Contents.{HasBody, HasContents, HasTree}
+use Rattle.hm_newfs.specs.Contents.{HasBody, HasContents, HasFreshTree}
 use Rattle.hm_newfs.specs.Layers.{HasLayer, HasPage, layer_bytes, layer_start}
 use Rattle.hm_newfs.specs.Steps.{Fills, HasClosedGates, AreGatesClosed}
 use Rattle.hm_newfs.specs.declared.layer.Layer.{Layer}
@@ -106,7 +106,7 @@ module _ (bigblocks : ℕ) (size : IsSize bigblocks) where
       outside (inr before) = inr before
 
   pub tree-kept : (place count : ℕ) (old new : List ℕ) → place + count ≤ start_of 1 → MayLeave old ((place, count) ∷ []) new
-      → HasTree bigblocks old → HasTree bigblocks new
+      → HasFreshTree bigblocks old → HasFreshTree bigblocks new
   tree-kept place count old new before change tree =
       let pool = pool_is bigblocks size in
       let P = start_of (first_pool bigblocks) in

@@ -15,7 +15,7 @@ use Rattle.hm_header.specs.Range.{IsSize}
 use Rattle.hm_image.specs.Fresh.{fresh_entry, pool_entry}
 use Rattle.hm_image.proofs.FreshSpaceLemmas.{fresh_entry_is, fresh_in_pool}
 use Rattle.hm_image.proofs.OffsetLemmas.{layer2_is, pool_is}
-use Rattle.hm_newfs.specs.Layers.{HasPage, HoldsPage, taken}
+use Rattle.hm_newfs.specs.Layers.{HasPage, HoldsLayerPage, taken_at_first}
 use Rattle.hm_newfs.specs.declared.layer.Layer.{Layer}
 use Rattle.hm_newfs.specs.declared.layer.Layer.TheVariants.{First, Second}
 
@@ -29,7 +29,7 @@ layer1_is bigblocks i size =
     (λ no. inr refl)
 
 -- the entries of the first big-blocks of the pool
-pool_taken : (k : ℕ) → k < 4 → taken_entry (TREE_ZONE + k) (slice_index taken k) ≡ pool_entry k
+pool_taken : (k : ℕ) → k < 4 → taken_entry (TREE_ZONE + k) (slice_index taken_at_first k) ≡ pool_entry k
 pool_taken zero few = refl
 pool_taken (suc zero) few = refl
 pool_taken (suc (suc zero)) few = refl
@@ -44,7 +44,7 @@ pool_unused k past =
     ∙ cond-false (nat_eq k 3) _ _ (ne_eqb k 3 (λ at. omega arith)))
 
 -- both crates below say the same of a fresh entry
-entries_agree : (bigblocks block : ℕ) → IsSize bigblocks → entry_made bigblocks taken block ≡ fresh_entry bigblocks block
+entries_agree : (bigblocks block : ℕ) → IsSize bigblocks → entry_made bigblocks taken_at_first block ≡ fresh_entry bigblocks block
 entries_agree bigblocks block size =
     let pool = pool_is bigblocks size in
     let Same : Entry → Type 0 = λ e. e ≡ fresh_entry bigblocks block in
@@ -68,7 +68,7 @@ entries_agree bigblocks block size =
 
 -- a page that holds the fields of a page of a layer has its bytes
 pub page-spelled : (bigblocks : ℕ) (layer : Layer) (number : ℕ) (page : List ℕ) → IsSize bigblocks → AreBytes page → length page ≡ 4096
-    → HoldsPage bigblocks layer number page → HasPage bigblocks layer number page
+    → HoldsLayerPage bigblocks layer number page → HasPage bigblocks layer number page
 page-spelled bigblocks First number page size small long holds = λ i few.
     let is = layer1_is bigblocks (number * 128 + i) size in
     let held : HoldsLayer1 page (i * 32) = record { offset = subst IsLayer1 (sym (holds.offset i few)) is; zero = holds.zero i few } in

@@ -10,7 +10,7 @@ use Rattle.hm_header.specs.OnDisk.{HasSlots}
 use Rattle.hm_header.specs.Range.{IsSize}
 use Rattle.hm_header.proofs.AnswerLemmas.{IfSome-map}
 use Rattle.hm_image.proofs.OffsetLemmas.{pool_is}
-use Rattle.hm_newfs.specs.Contents.{HasBody, HasContents, HasTree, tree_bytes}
+use Rattle.hm_newfs.specs.Contents.{HasBody, HasContents, HasFreshTree, tree_bytes}
 use Rattle.hm_newfs.specs.Layers.{HasLayer, layer_bytes}
 use Rattle.hm_newfs.specs.Steps.{Fills, HasClosedGates, HasSpace, AreGatesClosed, WritesContents}
 use Rattle.hm_newfs.specs.declared.layer.Layer.TheVariants.{First, Second}
@@ -57,7 +57,7 @@ module _ (bigblocks : ℕ) (size : IsSize bigblocks) where
   WithSecond bytes = WithFirst bytes × HasLayer bigblocks Second bytes
 
   abbrev WithTree : List ℕ → Type 0
-  WithTree bytes = WithSecond bytes × HasTree bigblocks bytes
+  WithTree bytes = WithSecond bytes × HasFreshTree bigblocks bytes
 
   -- where the layers and the tree are
   abbrev layer2 : ℕ
@@ -119,10 +119,10 @@ module _ (bigblocks : ℕ) (size : IsSize bigblocks) where
           )) fills time
 
       pub tree-done : BothTell old told (Beneath WithSecond past middle)
-          → BothTell told new (Fills (HasTree bigblocks) P tree_bytes) → BothTell told new (WriteElapses P tree_bytes middle since)
+          → BothTell told new (Fills (HasFreshTree bigblocks) P tree_bytes) → BothTell told new (WriteElapses P tree_bytes middle since)
           → BothTell old new (Beneath WithTree past since)
       tree-done so_far fills time =
-          step-more bigblocks size WithSecond P tree_bytes tree-clear past middle since old told new room so_far (HasTree bigblocks)
+          step-more bigblocks size WithSecond P tree_bytes tree-clear past middle since old told new room so_far (HasFreshTree bigblocks)
           (λ a b change has.
           let pool = pool_is bigblocks size in (
             (

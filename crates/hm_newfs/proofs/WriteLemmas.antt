@@ -17,7 +17,7 @@ use Rattle.hm_image.proofs.OffsetLemmas.{pool_is}
 use Rattle.hm_node.specs.Node.{Spells}
 use Rattle.hm_records.specs.Inode.{inode_bytes}
 use Rattle.hm_records.specs.PfsRecord.{head_bytes, interval_bytes, pfs_bytes}
-use Rattle.hm_newfs.specs.Contents.{HasBody, HasTree, tree_bytes}
+use Rattle.hm_newfs.specs.Contents.{HasBody, HasFreshTree, tree_bytes}
 use Rattle.hm_newfs.specs.Layers.{HasPages}
 use Rattle.hm_newfs.specs.Steps.{Fills, HasSpace}
 use Rattle.hm_newfs.proofs.PageLemmas.{pages-more}
@@ -118,7 +118,7 @@ module _ (bigblocks : ℕ) (size : IsSize bigblocks) where
         torn-more P tree_bytes P (length page) (omega arith) (omega (arith, root.long)) s s t (torn-none P tree_bytes s)
         (torn-written P page s t fits-root root.written)
 
-    pub tree-written : Spells page (fresh_root bigblocks) → Written Q payloads t u → Fills (HasTree bigblocks) P tree_bytes s u
+    pub tree-written : Spells page (fresh_root bigblocks) → Written Q payloads t u → Fills (HasFreshTree bigblocks) P tree_bytes s u
     tree-written spells written = record {
       has = record {
         root = subst (λ (p : List ℕ). Spells p (fresh_root bigblocks)) (sym page-is) spells;

@@ -21,7 +21,7 @@ abbrev pub tree_bytes : ℕ
 tree_bytes = BIGBLOCK_BYTES + PAYLOAD_BYTES
 
 -- the pool begins with a big-block that has the root node, and one that has both payloads
-pub record HasTree (bigblocks : ℕ) (bytes : List ℕ) : Type 0 where
+pub record HasFreshTree (bigblocks : ℕ) (bytes : List ℕ) : Type 0 where
   pub root : Spells (slice_range bytes (start_of (first_pool bigblocks)) (start_of (first_pool bigblocks) + PAGE_BYTES))
       (fresh_root bigblocks)
   pub payloads : slice_range bytes (start_of (first_pool bigblocks + 1)) (start_of (first_pool bigblocks + 1) + PAYLOAD_BYTES)
@@ -32,4 +32,4 @@ pub record HasContents (bigblocks : ℕ) (bytes : List ℕ) : Type 0 where
   pub body : HasBody bigblocks bytes
   pub layer1 : HasLayer bigblocks First bytes
   pub layer2 : HasLayer bigblocks Second bytes
-  pub tree : HasTree bigblocks bytes
+  pub tree : HasFreshTree bigblocks bytes

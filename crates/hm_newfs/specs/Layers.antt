@@ -13,8 +13,8 @@ use Rattle.hm_newfs.specs.declared.layer.TheConstants.{ENTRIES_PER_PAGE, OFFSETS
 use Rattle.hm_newfs.specs.declared.tree.TheConstants.{PAYLOAD_BYTES}
 
 -- how many bytes are live in the first four big-blocks of the pool
-abbrev pub taken : List ℕ
-taken = PAGE_BYTES ∷ PAYLOAD_BYTES ∷ 0 ∷ 0 ∷ []
+abbrev pub taken_at_first : List ℕ
+taken_at_first = PAGE_BYTES ∷ PAYLOAD_BYTES ∷ 0 ∷ 0 ∷ []
 
 -- so many entries of layer 1 are in a page, from this one on
 pub record HoldsOffsets (bigblocks first many : ℕ) (page : List ℕ) : Type 0 where
@@ -23,9 +23,9 @@ pub record HoldsOffsets (bigblocks first many : ℕ) (page : List ℕ) : Type 0 
       → (get page (i * 32 + 8) 8 ≡ 0) × (get page (i * 32 + 16) 8 ≡ 0) × (get page (i * 32 + 24) 8 ≡ 0)
 
 -- the fields of this page of a layer are in a page
-abbrev pub HoldsPage : ℕ → Layer → ℕ → List ℕ → Type 0
-HoldsPage bigblocks First number page = HoldsOffsets bigblocks (number * OFFSETS_PER_PAGE) OFFSETS_PER_PAGE page
-HoldsPage bigblocks Second number page = HoldsFresh bigblocks taken (number * ENTRIES_PER_PAGE) ENTRIES_PER_PAGE page
+abbrev pub HoldsLayerPage : ℕ → Layer → ℕ → List ℕ → Type 0
+HoldsLayerPage bigblocks First number page = HoldsOffsets bigblocks (number * OFFSETS_PER_PAGE) OFFSETS_PER_PAGE page
+HoldsLayerPage bigblocks Second number page = HoldsFresh bigblocks taken_at_first (number * ENTRIES_PER_PAGE) ENTRIES_PER_PAGE page
 
 -- these are the bytes of this page of a layer
 abbrev pub HasPage : ℕ → Layer → ℕ → List ℕ → Type 0

@@ -5,7 +5,7 @@ ghost use Rattle.hm_types.specs.Told.{BothTell};
 ghost use Rattle.hm_types.specs.declared.limits.TheConstants.{MOST_BIGBLOCKS};
 ghost use Rattle.hm_disk.specs.Moments.{WriteElapses};
 ghost use Rattle.hm_header.specs.Range.{IsSize};
-ghost use Rattle.hm_newfs.specs.Layers.{HasLayer, HasPage, HasPages, HoldsOffsets, HoldsPage};
+ghost use Rattle.hm_newfs.specs.Layers.{HasLayer, HasPage, HasPages, HoldsOffsets, HoldsLayerPage};
 ghost use Rattle.hm_newfs.specs.Layers.{layer_blocks, layer_bytes, layer_start};
 ghost use Rattle.hm_newfs.specs.Steps.{Fills, HasSpace};
 ghost use Rattle.hm_newfs.specs.declared.layer.TheConstants.{MOST_PAGES, OFFSETS_PER_PAGE};
@@ -110,7 +110,7 @@ impl Layer {
     fn fill_page(self, bigblocks: u32, number: u32, page: &mut Page)
         requires size { IsSize bigblocks }
         requires number { number < MOST_PAGES }
-        ensures { HoldsPage bigblocks self number page.new }
+        ensures { HoldsLayerPage bigblocks self number page.new }
     {
         match self {
             Layer::First => fill_offsets(bigblocks, number * OFFSETS_PER_PAGE, page),

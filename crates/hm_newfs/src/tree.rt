@@ -8,7 +8,7 @@ ghost use Rattle.hm_header.specs.Range.{IsSize};
 ghost use Rattle.hm_image.specs.Fresh.{fresh_base, fresh_record, fresh_root, root_inode};
 ghost use Rattle.hm_records.specs.Inode.{inode_bytes};
 ghost use Rattle.hm_records.specs.PfsRecord.{pfs_bytes};
-ghost use Rattle.hm_newfs.specs.Contents.{HasTree, tree_bytes};
+ghost use Rattle.hm_newfs.specs.Contents.{HasFreshTree, tree_bytes};
 ghost use Rattle.hm_newfs.specs.Steps.{Fills, HasSpace};
 
 use arrayvec::ArrayVec;
@@ -44,7 +44,7 @@ pub(crate) fn write_tree<D: Disk>(disk: &mut D, bigblocks: u32) -> Result<(), Fa
     requires size { IsSize bigblocks }
     requires room { IfSome (D.told disk.old) (HasSpace bigblocks) }
     ensures ok { OnOk result (BothTell (D.told disk.old) (D.told disk.new)
-        (Fills (HasTree bigblocks) (start_of (first_pool bigblocks)) tree_bytes)) }
+        (Fills (HasFreshTree bigblocks) (start_of (first_pool bigblocks)) tree_bytes)) }
     ensures any_moment { BothTell (D.told disk.old) (D.told disk.new)
         (WriteElapses (start_of (first_pool bigblocks)) tree_bytes (D.left_since disk.old)
         (D.left_since disk.new)) }

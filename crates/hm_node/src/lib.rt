@@ -26,5 +26,5 @@ pub use laws::{
 pub use leaf::{Leaf, read_element};
 pub use node::{Node, broken_rule, decode, encode, node_of};
 pub use node_pages::NodePages;
-pub use places::{is_before, place};
+pub use places::{is_before, order_at, place};
 pub use rule::Rule;

@@ -3,13 +3,14 @@ ghost use Rattle.std.specs.Prelude.{◌≡◌, ◌≤◌, ◌<◌, ◌+◌, ◌*
 ghost use Rattle.std.specs.List.Sorted.{IsStrictlySortedBy};
 ghost use Rattle.std.specs.declared.cmp.Ordering.TheVariants.{Less};
 ghost use Rattle.hm_types.specs.declared.limits.TheConstants.{PAGE_BYTES};
-ghost use Rattle.hm_node.specs.Base.{base_cmp};
+ghost use Rattle.hm_node.specs.Base.{base_cmp, base_in};
 ghost use Rattle.hm_node.specs.Places.{place, bases_in, IsZero, IsZeroOutside};
 
 use crate::base::read_base;
-use hm_fields::{Page, get_u32, get_u64};
+use hm_fields::{Page, get_u16, get_u32, get_u64};
 use hm_key::Base;
 use hm_types::PAGE_BYTES;
+use std::cmp::Ordering;
 
 // The size of a place, and that of the head before the first one, in bytes.
 pub(crate) const PLACE_BYTES: usize = 64;
@@ -70,6 +71,32 @@ pub fn is_before(first: &Base, second: &Base) -> bool
         return first.key < second.key;
     }
     first.create < second.create
+}
+
+/// How the base in the 40 bytes from `at` on stands to another one in the tree, by their keys. It reads no
+/// field behind the first in which they differ.
+#[tactic(auto, unfolding(crate::specs::Base::base_in))]
+pub fn order_at(page: &Page, at: usize, other: &Base) -> Ordering
+    requires { at + 40 ≤ PAGE_BYTES }
+    ensures { result ≡ base_cmp (base_in page.now at) other.now }
+{
+    let localization = get_u32(page, at + 36);
+    if localization != other.localization {
+        return localization.cmp(&other.localization);
+    }
+    let obj = get_u64(page, at);
+    if obj != other.obj.0 {
+        return obj.cmp(&other.obj.0);
+    }
+    let rec_type = get_u16(page, at + 32);
+    if rec_type != other.rec_type {
+        return rec_type.cmp(&other.rec_type);
+    }
+    let key = get_u64(page, at + 8);
+    if key != other.key {
+        return key.cmp(&other.key);
+    }
+    get_u64(page, at + 16).cmp(&other.create)
 }
 
 // Whether the base in this place stands after the one before it, if it is not the first.

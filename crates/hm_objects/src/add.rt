@@ -1,26 +1,14 @@
 // New objects.
 ghost use Rattle.std.specs.Prelude.{◌≡◌, ◌+◌, ◌≤◌, Some, length, OnOk};
-ghost use Rattle.hm_types.specs.Faults.{HasStoreCause};
-ghost use Rattle.hm_types.specs.Space.{Spends, rounded};
+ghost use Rattle.hm_types.specs.Space.{rounded};
 ghost use Rattle.hm_types.specs.Tree.{directory_of};
-ghost use Rattle.hm_key.specs.Balance.{Balanced, content_of};
-ghost use Rattle.hm_key.specs.Stores.{Keeps};
 ghost use Rattle.hm_key.specs.Counts.{inode_subject};
+ghost use Rattle.hm_key.specs.Members.{HasContentCause, InBalance, KeepsFrame, KeepsTold, SpendsAtMost};
 ghost use Rattle.hm_records.specs.Inode.{IsInode, inode_bytes};
 ghost use Rattle.hm_records.specs.Target.{IsTarget};
-ghost use Rattle.hm_cursor.specs.Write.{IsFresh, Rewrites, Writes};
-ghost use Rattle.hm_objects.specs.Objects.{
-  AddsObject,
-  HasRooms,
-  IsOlderIn,
-  file_of,
-  inode_of,
-  open_base,
-  pfs_link_inode,
-  pfs_link_of,
-  softlink_of,
-  spent,
-};
+ghost use Rattle.hm_cursor.specs.Write.{IsFresh, Rewrites, WritesStore};
+ghost use Rattle.hm_objects.specs.Objects.{AddsObject, HasRooms, IsOlderIn, file_of, inode_of, open_base};
+ghost use Rattle.hm_objects.specs.Objects.{pfs_link_inode, pfs_link_of, softlink_of, spent};
 
 use hm_cursor::{add_version, close_versions, inode_base, target_base};
 use hm_key::{Base, ELEMENT, ElementStore, Extents, HasElements, HasRoom};
@@ -39,18 +27,16 @@ pub fn add_directory<T: ElementStore + Extents>(
     id: Id,
 ) -> Result<(), Fault>
     requires id { 1 ≤ id.0 }
-    requires balanced { Balanced (T.elements store.old) (T.extents store.old) }
+    requires balanced { InBalance T.HasElements store.old }
     requires older { IsOlderIn (T.elements store.old) (T.extents store.old)
         pfs.0 number.0 id.0 }
     requires room { HasRooms (T.room store.old) 1 32 }
-    ensures ok { OnOk result (Writes T.elements T.extents
+    ensures ok { OnOk result (WritesStore T.HasElements
         (AddsObject pfs.0 id.0 (directory_of number)) store.old store.new) }
-    ensures keeps { Keeps T.elements T.extents store.old store.new result }
-    ensures space { Spends T.room T.free (spent 1 32) store.old store.new }
-    ensures borrowed { (T.name store.new ≡ T.name store.old)
-        × (T.frame store.new ≡ T.frame store.old) }
-    ensures cause { HasStoreCause (content_of (T.elements store.old) (T.extents store.old))
-        (T.faults store.old) (T.faults store.new) result }
+    ensures keeps { KeepsTold T.HasElements store.old store.new result }
+    ensures space { SpendsAtMost T.HasElements (spent 1 32) store.old store.new }
+    ensures borrowed { KeepsFrame T.Counted store.old store.new }
+    ensures cause { HasContentCause T.HasElements store.old store.new result }
 {
     add_inode(alloc, store, pfs, number, &new_inode(DIRECTORY, 0), id)
 }
@@ -64,18 +50,16 @@ pub fn add_file<T: ElementStore + Extents>(
     id: Id,
 ) -> Result<(), Fault>
     requires id { 1 ≤ id.0 }
-    requires balanced { Balanced (T.elements store.old) (T.extents store.old) }
+    requires balanced { InBalance T.HasElements store.old }
     requires older { IsOlderIn (T.elements store.old) (T.extents store.old)
         pfs.0 number.0 id.0 }
     requires room { HasRooms (T.room store.old) 1 32 }
-    ensures ok { OnOk result (Writes T.elements T.extents
+    ensures ok { OnOk result (WritesStore T.HasElements
         (AddsObject pfs.0 id.0 (file_of number)) store.old store.new) }
-    ensures keeps { Keeps T.elements T.extents store.old store.new result }
-    ensures space { Spends T.room T.free (spent 1 32) store.old store.new }
-    ensures borrowed { (T.name store.new ≡ T.name store.old)
-        × (T.frame store.new ≡ T.frame store.old) }
-    ensures cause { HasStoreCause (content_of (T.elements store.old) (T.extents store.old))
-        (T.faults store.old) (T.faults store.new) result }
+    ensures keeps { KeepsTold T.HasElements store.old store.new result }
+    ensures space { SpendsAtMost T.HasElements (spent 1 32) store.old store.new }
+    ensures borrowed { KeepsFrame T.Counted store.old store.new }
+    ensures cause { HasContentCause T.HasElements store.old store.new result }
 {
     add_inode(alloc, store, pfs, number, &new_inode(FILE, 0), id)
 }
@@ -93,19 +77,17 @@ pub fn add_softlink<T: ElementStore + Extents>(
 ) -> Result<(), Fault>
     requires id { 1 ≤ id.0 }
     requires target { IsTarget target.now }
-    requires balanced { Balanced (T.elements store.old) (T.extents store.old) }
+    requires balanced { InBalance T.HasElements store.old }
     requires older { IsOlderIn (T.elements store.old) (T.extents store.old)
         pfs.0 number.0 id.0 }
     requires room { HasRooms (T.room store.old) 2 (32 + rounded (length target.now)) }
-    ensures ok { OnOk result (Writes T.elements T.extents
+    ensures ok { OnOk result (WritesStore T.HasElements
         (AddsObject pfs.0 id.0 (softlink_of number target.now)) store.old store.new) }
-    ensures keeps { Keeps T.elements T.extents store.old store.new result }
-    ensures space { Spends T.room T.free (spent 2 (32 + rounded (length target.now)))
+    ensures keeps { KeepsTold T.HasElements store.old store.new result }
+    ensures space { SpendsAtMost T.HasElements (spent 2 (32 + rounded (length target.now)))
         store.old store.new }
-    ensures borrowed { (T.name store.new ≡ T.name store.old)
-        × (T.frame store.new ≡ T.frame store.old) }
-    ensures cause { HasStoreCause (content_of (T.elements store.old) (T.extents store.old))
-        (T.faults store.old) (T.faults store.new) result }
+    ensures borrowed { KeepsFrame T.Counted store.old store.new }
+    ensures cause { HasContentCause T.HasElements store.old store.new result }
 {
     let base = made_by(target_base(pfs, number), SOFTLINK, id);
     close_versions(store, &base, id)?;
@@ -125,18 +107,16 @@ pub fn add_pfs_link<T: ElementStore + Extents>(
     id: Id,
 ) -> Result<(), Fault>
     requires id { 1 ≤ id.0 }
-    requires balanced { Balanced (T.elements store.old) (T.extents store.old) }
+    requires balanced { InBalance T.HasElements store.old }
     requires older { IsOlderIn (T.elements store.old) (T.extents store.old)
         pfs.0 number.0 id.0 }
     requires room { HasRooms (T.room store.old) 1 32 }
-    ensures ok { OnOk result (Writes T.elements T.extents
+    ensures ok { OnOk result (WritesStore T.HasElements
         (AddsObject pfs.0 id.0 (pfs_link_of number to)) store.old store.new) }
-    ensures keeps { Keeps T.elements T.extents store.old store.new result }
-    ensures space { Spends T.room T.free (spent 1 32) store.old store.new }
-    ensures borrowed { (T.name store.new ≡ T.name store.old)
-        × (T.frame store.new ≡ T.frame store.old) }
-    ensures cause { HasStoreCause (content_of (T.elements store.old) (T.extents store.old))
-        (T.faults store.old) (T.faults store.new) result }
+    ensures keeps { KeepsTold T.HasElements store.old store.new result }
+    ensures space { SpendsAtMost T.HasElements (spent 1 32) store.old store.new }
+    ensures borrowed { KeepsFrame T.Counted store.old store.new }
+    ensures cause { HasContentCause T.HasElements store.old store.new result }
 {
     add_inode(alloc, store, pfs, number, &new_link(to.0), id)
 }
@@ -152,19 +132,17 @@ fn add_inode<T: ElementStore + Extents>(
 ) -> Result<(), Fault>
     requires id { 1 ≤ id.0 }
     requires inode { IsInode inode.now }
-    requires balanced { Balanced (T.elements store.old) (T.extents store.old) }
+    requires balanced { InBalance T.HasElements store.old }
     requires fresh { IsFresh (T.elements store.old) (T.extents store.old)
         (inode_subject pfs.0 number.0) id.0 }
     requires room { HasRooms (T.room store.old) 1 32 }
-    ensures ok { OnOk result (Writes T.elements T.extents
+    ensures ok { OnOk result (WritesStore T.HasElements
         (Rewrites (inode_subject pfs.0 number.0) (Some (inode_bytes inode.now)) id.0)
         store.old store.new) }
-    ensures keeps { Keeps T.elements T.extents store.old store.new result }
-    ensures space { Spends T.room T.free (spent 1 32) store.old store.new }
-    ensures borrowed { (T.name store.new ≡ T.name store.old)
-        × (T.frame store.new ≡ T.frame store.old) }
-    ensures cause { HasStoreCause (content_of (T.elements store.old) (T.extents store.old))
-        (T.faults store.old) (T.faults store.new) result }
+    ensures keeps { KeepsTold T.HasElements store.old store.new result }
+    ensures space { SpendsAtMost T.HasElements (spent 1 32) store.old store.new }
+    ensures borrowed { KeepsFrame T.Counted store.old store.new }
+    ensures cause { HasContentCause T.HasElements store.old store.new result }
 {
     let bytes = encode_inode(alloc, inode)?;
     let base = made_by(inode_base(pfs, number), inode.kind, id);

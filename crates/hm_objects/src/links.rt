@@ -1,20 +1,11 @@
 // The number of an object's links.
 ghost use Rattle.std.specs.Prelude.{◌≡◌, ◌≤◌, IfOk, IfSome, OnOk};
-ghost use Rattle.hm_types.specs.Space.{Spends};
 ghost use Rattle.hm_types.specs.Tree.{with_change, with_links};
-ghost use Rattle.hm_key.specs.Balance.{Balanced};
-ghost use Rattle.hm_key.specs.Stores.{Keeps, Same};
+ghost use Rattle.hm_key.specs.Members.{InBalance, IsSame, KeepsFrame, KeepsTold, SpendsAtMost};
 ghost use Rattle.hm_records.specs.Inode.{IsInode};
-ghost use Rattle.hm_cursor.specs.Told.{HasReadingCause, OnBalanced};
-ghost use Rattle.hm_cursor.specs.Write.{Writes};
-ghost use Rattle.hm_objects.specs.Objects.{
-  ChangesBy,
-  HasRooms,
-  IsInodeClosed,
-  IsInodeMade,
-  IsOlderIn,
-  spent,
-};
+ghost use Rattle.hm_cursor.specs.Told.{OnBalanced, ReadsWithCause};
+ghost use Rattle.hm_cursor.specs.Write.{WritesStore};
+ghost use Rattle.hm_objects.specs.Objects.{ChangesBy, HasRooms, IsInodeClosed, IsInodeMade, IsOlderIn, spent};
 
 use crate::add::made_by;
 use hm_cursor::{find_payload, inode_base, renew_version};
@@ -40,19 +31,17 @@ pub fn set_links<T: ElementStore + Extents>(
     id: Id,
 ) -> Result<(), Fault>
     requires id { 1 ≤ id.0 }
-    requires balanced { Balanced (T.elements store.old) (T.extents store.old) }
+    requires balanced { InBalance T.HasElements store.old }
     requires older { IsOlderIn (T.elements store.old) (T.extents store.old) pfs.0 obj.0 id.0 }
     requires room { HasRooms (T.room store.old) 1 32 }
-    ensures ok { OnOk result (Writes T.elements T.extents (ChangesBy pfs.0 obj.0 id.0
+    ensures ok { OnOk result (WritesStore T.HasElements (ChangesBy pfs.0 obj.0 id.0
         (λ tree. with_change tree obj (with_links links))) store.old store.new) }
     ensures closed { OnOk result (OnBalanced (T.elements store.old) (T.extents store.old)
         (λ lists. IsInodeClosed lists pfs.0 obj.0 id.0 (T.elements store.new))) }
-    ensures keeps { Keeps T.elements T.extents store.old store.new result }
-    ensures space { Spends T.room T.free (spent 1 32) store.old store.new }
-    ensures borrowed { (T.name store.new ≡ T.name store.old)
-        × (T.frame store.new ≡ T.frame store.old) }
-    ensures cause { HasReadingCause (T.elements store.old) (T.extents store.old)
-        (T.faults store.old) (T.faults store.new) result }
+    ensures keeps { KeepsTold T.HasElements store.old store.new result }
+    ensures space { SpendsAtMost T.HasElements (spent 1 32) store.old store.new }
+    ensures borrowed { KeepsFrame T.Counted store.old store.new }
+    ensures cause { ReadsWithCause T.HasElements store.old store.new result }
 {
     let Some((made, inode)) = find_made_inode(store, pfs, obj, id)? else {
         return Ok(());
@@ -75,15 +64,13 @@ pub(crate) fn find_made_inode<T: ElementStore + Extents>(
     obj: Obj,
     as_of: Id,
 ) -> Result<Option<(Id, Inode)>, Fault>
-    requires balanced { Balanced (T.elements store.old) (T.extents store.old) }
+    requires balanced { InBalance T.HasElements store.old }
     ensures ranges { IfOk result (λ found. IfSome found (λ pair. IsInode pair.1)) }
     ensures ok { IfOk result (λ found. OnBalanced (T.elements store.old) (T.extents store.old)
         (λ lists. IsInodeMade lists as_of.0 pfs.0 obj.0 found)) }
-    ensures keeps { Same T.elements T.mark T.extents T.room T.free store.old store.new }
-    ensures borrowed { (T.name store.new ≡ T.name store.old)
-        × (T.frame store.new ≡ T.frame store.old) }
-    ensures cause { HasReadingCause (T.elements store.old) (T.extents store.old)
-        (T.faults store.old) (T.faults store.new) result }
+    ensures keeps { IsSame T.HasElements store.old store.new }
+    ensures borrowed { KeepsFrame T.Counted store.old store.new }
+    ensures cause { ReadsWithCause T.HasElements store.old store.new result }
 {
     let mut buffer = [0; INODE_BYTES];
     match find_payload(store, &inode_base(pfs, obj), as_of, &mut buffer)? {

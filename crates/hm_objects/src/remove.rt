@@ -1,11 +1,9 @@
 // Objects that go.
 ghost use Rattle.std.specs.Prelude.{◌≡◌, OnOk};
-ghost use Rattle.hm_types.specs.Faults.{HasStoreCause};
-ghost use Rattle.hm_types.specs.Space.{Spends, nothing};
+ghost use Rattle.hm_types.specs.Space.{nothing};
 ghost use Rattle.hm_types.specs.Tree.{without_object};
-ghost use Rattle.hm_key.specs.Balance.{Balanced, content_of};
-ghost use Rattle.hm_key.specs.Stores.{Keeps};
-ghost use Rattle.hm_cursor.specs.Write.{Writes};
+ghost use Rattle.hm_key.specs.Members.{HasContentCause, InBalance, KeepsFrame, KeepsTold, SpendsAtMost};
+ghost use Rattle.hm_cursor.specs.Write.{WritesStore};
 ghost use Rattle.hm_objects.specs.Objects.{ChangesBy, IsGone, IsOlderIn};
 
 use hm_cursor::{close_versions, inode_base, target_base};
@@ -21,18 +19,16 @@ pub fn remove_object<T: ElementStore + Extents>(
     obj: Obj,
     id: Id,
 ) -> Result<(), Fault>
-    requires balanced { Balanced (T.elements store.old) (T.extents store.old) }
+    requires balanced { InBalance T.HasElements store.old }
     requires older { IsOlderIn (T.elements store.old) (T.extents store.old) pfs.0 obj.0 id.0 }
-    ensures ok { OnOk result (Writes T.elements T.extents (ChangesBy pfs.0 obj.0 id.0
+    ensures ok { OnOk result (WritesStore T.HasElements (ChangesBy pfs.0 obj.0 id.0
         (λ tree. without_object tree obj)) store.old store.new) }
-    ensures gone { OnOk result (Writes T.elements T.extents (λ _ es.
+    ensures gone { OnOk result (WritesStore T.HasElements (λ _ es.
         IsGone pfs.0 obj.0 id.0 es) store.old store.new) }
-    ensures keeps { Keeps T.elements T.extents store.old store.new result }
-    ensures space { Spends T.room T.free nothing store.old store.new }
-    ensures borrowed { (T.name store.new ≡ T.name store.old)
-        × (T.frame store.new ≡ T.frame store.old) }
-    ensures cause { HasStoreCause (content_of (T.elements store.old) (T.extents store.old))
-        (T.faults store.old) (T.faults store.new) result }
+    ensures keeps { KeepsTold T.HasElements store.old store.new result }
+    ensures space { SpendsAtMost T.HasElements nothing store.old store.new }
+    ensures borrowed { KeepsFrame T.Counted store.old store.new }
+    ensures cause { HasContentCause T.HasElements store.old store.new result }
 {
     close_versions(store, &target_base(pfs, obj), id)?;
     close_versions(store, &inode_base(pfs, obj), id)

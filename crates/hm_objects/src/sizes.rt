@@ -1,10 +1,8 @@
 // The size of a file.
 ghost use Rattle.std.specs.Prelude.{◌≡◌, ◌≤◌, OnOk};
-ghost use Rattle.hm_types.specs.Space.{Spends};
-ghost use Rattle.hm_key.specs.Balance.{Balanced};
-ghost use Rattle.hm_key.specs.Stores.{Keeps};
-ghost use Rattle.hm_cursor.specs.Told.{HasReadingCause};
-ghost use Rattle.hm_cursor.specs.Write.{Writes};
+ghost use Rattle.hm_key.specs.Members.{InBalance, KeepsFrame, KeepsTold, SpendsAtMost};
+ghost use Rattle.hm_cursor.specs.Told.{ReadsWithCause};
+ghost use Rattle.hm_cursor.specs.Write.{WritesStore};
 ghost use Rattle.hm_objects.specs.Objects.{HasRooms, IsOlderIn, ResizesObject, spent};
 
 use crate::add::made_by;
@@ -27,17 +25,15 @@ pub fn set_size<T: ElementStore + Extents>(
     id: Id,
 ) -> Result<(), Fault>
     requires id { 1 ≤ id.0 }
-    requires balanced { Balanced (T.elements store.old) (T.extents store.old) }
+    requires balanced { InBalance T.HasElements store.old }
     requires older { IsOlderIn (T.elements store.old) (T.extents store.old) pfs.0 obj.0 id.0 }
     requires room { HasRooms (T.room store.old) 1 32 }
-    ensures ok { OnOk result (Writes T.elements T.extents
+    ensures ok { OnOk result (WritesStore T.HasElements
         (ResizesObject pfs.0 obj.0 id.0 size) store.old store.new) }
-    ensures keeps { Keeps T.elements T.extents store.old store.new result }
-    ensures space { Spends T.room T.free (spent 1 32) store.old store.new }
-    ensures borrowed { (T.name store.new ≡ T.name store.old)
-        × (T.frame store.new ≡ T.frame store.old) }
-    ensures cause { HasReadingCause (T.elements store.old) (T.extents store.old)
-        (T.faults store.old) (T.faults store.new) result }
+    ensures keeps { KeepsTold T.HasElements store.old store.new result }
+    ensures space { SpendsAtMost T.HasElements (spent 1 32) store.old store.new }
+    ensures borrowed { KeepsFrame T.Counted store.old store.new }
+    ensures cause { ReadsWithCause T.HasElements store.old store.new result }
 {
     let Some((made, inode)) = find_made_inode(store, pfs, obj, id)? else {
         return Ok(());

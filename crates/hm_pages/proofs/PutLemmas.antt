@@ -9,7 +9,7 @@ use Rattle.hm_types.specs.declared.limits.TheConstants.{MOST_GROUP_PAGES}
 use Rattle.hm_fields.specs.Pages.{PageMap}
 use Rattle.hm_pages.specs.Counts.{Boxed, bytes_of}
 use Rattle.hm_pages.specs.Maps.{ChangeMap, over, set_at, is_page, pages_at}
-use Rattle.hm_pages.specs.Sets.{set_of, one_if, HasChanged, takes_out, in_freemap, KeepsFreemap}
+use Rattle.hm_pages.specs.Sets.{set_of, one_if_page, HasChanged, takes_out, in_freemap, KeepsFreemap}
 
 -- a change over a map is the map with it
 over_here : (here : Bool) (page : Option (List ℕ)) (change : Option (Option (List ℕ))) (below : Option (List ℕ)) →
@@ -27,11 +27,12 @@ changed_here : (here : Bool) (page : Option (List ℕ)) (change : Option (Option
 changed_here true page change = refl
 changed_here false page change = refl
 
-pages_after : (page : Option (List ℕ)) → pages_at (Some page) ≡ one_if page
+pages_after : (page : Option (List ℕ)) → pages_at (Some page) ≡ one_if_page page
 pages_after None = refl
 pages_after (Some bytes) = refl
 
-pages_of : (change : Option (Option (List ℕ))) (below : Option (List ℕ)) → pages_at change ≡ (if is_some change then one_if (unwrap_or change below) else 0)
+pages_of : (change : Option (Option (List ℕ))) (below : Option (List ℕ))
+    → pages_at change ≡ (if is_some change then one_if_page (unwrap_or change below) else 0)
 pages_of None below = refl
 pages_of (Some None) below = refl
 pages_of (Some (Some bytes)) below = refl

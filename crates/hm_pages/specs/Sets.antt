@@ -20,14 +20,14 @@ abbrev pub set_of : ChangeMap → ℕ → ChangeSet
 set_of changes pages = record { changed = λ at. is_some (changes at); pages = pages }
 
 -- 1 for a page, and 0 for none
-abbrev pub one_if : Option (List ℕ) → ℕ
-one_if None = 0
-one_if (Some bytes) = 1
+abbrev pub one_if_page : Option (List ℕ) → ℕ
+one_if_page None = 0
+one_if_page (Some bytes) = 1
 
 -- one offset more was changed: it had the page `before`, and has the page `after`
 pub record HasChanged (at : ℕ) (before after : Option (List ℕ)) (old new : ChangeSet) : Type 0 where
   pub changed : new.changed ≡ set_at at true old.changed
-  pub pages : new.pages + (if old.changed at then one_if before else 0) ≡ old.pages + one_if after
+  pub pages : new.pages + (if old.changed at then one_if_page before else 0) ≡ old.pages + one_if_page after
 
 -- whether a page was taken out
 abbrev pub takes_out : Option (Option (List ℕ)) → Bool
@@ -44,5 +44,5 @@ abbrev pub KeepsFreemap : ChangeMap → Type 0
 KeepsFreemap changes = (at : ℕ) → in_freemap at ≡ true → takes_out (changes at) ≡ false
 
 -- a list has exactly the offsets at which a page was put
-abbrev pub IsListed : List ℕ → ChangeMap → Type 0
-IsListed list changes = (at : ℕ) → is_member nat_eq list at ≡ is_page (changes at)
+abbrev pub ListsPages : List ℕ → ChangeMap → Type 0
+ListsPages list changes = (at : ℕ) → is_member nat_eq list at ≡ is_page (changes at)

@@ -6,7 +6,7 @@ ghost use Rattle.std.specs.HashMap.{spare, hash_map_len};
 ghost use Rattle.std.proofs.Props.{props};
 ghost use Rattle.hm_types.specs.declared.limits.TheConstants.{MOST_GROUP_PAGES};
 ghost use Rattle.hm_pages.specs.Maps.{is_page};
-ghost use Rattle.hm_pages.specs.Sets.{IsListed, KeepsFreemap};
+ghost use Rattle.hm_pages.specs.Sets.{ListsPages, KeepsFreemap};
 ghost use Rattle.hm_pages.specs.Changes.{change_at};
 
 use crate::changes::Changes;
@@ -41,7 +41,7 @@ pub struct PageStore {
     ghost closed: { (if is_open then 0 else hash_map_len call.places) ≡ 0 },
     ghost idle: { (if is_some boundary then 0 else hash_map_len frozen.places) ≡ 0 },
     ghost rising: { IsStrictlyIncreasing places.items } by { Prim.hlevel props },
-    ghost listed: { IsListed places.items (change_at frozen) } by { Prim.hlevel props },
+    ghost listed: { ListsPages places.items (change_at frozen) } by { Prim.hlevel props },
     ghost len: { length places.items ≡ frozen.pages },
     ghost call_keeps: { KeepsFreemap (change_at call) } by { Prim.hlevel props },
     ghost group_keeps: { KeepsFreemap (change_at group) } by { Prim.hlevel props },

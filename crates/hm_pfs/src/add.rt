@@ -1,24 +1,14 @@
 // New pseudo file systems.
 ghost use Rattle.std.specs.Prelude.{◌≡◌, ◌≤◌, IfOk, OnOk, length};
-ghost use Rattle.hm_types.specs.Faults.{HasStoreCause};
-ghost use Rattle.hm_types.specs.Space.{Spends, rounded};
-ghost use Rattle.hm_key.specs.Balance.{Balanced, content_of};
-ghost use Rattle.hm_key.specs.Stores.{Keeps};
+ghost use Rattle.hm_types.specs.Space.{rounded};
 ghost use Rattle.hm_key.specs.Versions.{Adds};
+ghost use Rattle.hm_key.specs.Members.{HasContentCause, InBalance, KeepsFrame, KeepsTold, SpendsAtMost};
 ghost use Rattle.hm_records.specs.PfsRecord.{pfs_bytes};
 ghost use Rattle.hm_records.specs.declared.kind.TheConstants.{DIRECTORY};
-ghost use Rattle.hm_cursor.specs.Write.{Writes};
+ghost use Rattle.hm_cursor.specs.Write.{WritesStore};
 ghost use Rattle.hm_objects.specs.Objects.{HasRooms, open_base, spent};
-ghost use Rattle.hm_pfs.specs.Systems.{
-  IsUnmadeIn,
-  LacksElement,
-  PutsMaster,
-  PutsSlave,
-  master_record,
-  made_record,
-  made_root,
-  slave_record,
-};
+ghost use Rattle.hm_pfs.specs.Systems.{IsUnmadeIn, LacksElement, PutsMaster, PutsSlave, master_record, made_record};
+ghost use Rattle.hm_pfs.specs.Systems.{made_root, slave_record};
 
 use crate::payload::encode_record;
 use hm_cursor::{inode_base, insert_with_payload, record_base};
@@ -41,17 +31,15 @@ pub fn add_master<T: ElementStore + Extents>(
     id: Id,
 ) -> Result<(), Fault>
     requires id { 1 ≤ id.0 }
-    requires balanced { Balanced (T.elements store.old) (T.extents store.old) }
+    requires balanced { InBalance T.HasElements store.old }
     requires unmade { IsUnmadeIn (T.elements store.old) (T.extents store.old) number.0 id.0 }
     requires room { HasRooms (T.room store.old) 2 80 }
-    ensures ok { OnOk result (Writes T.elements T.extents
+    ensures ok { OnOk result (WritesStore T.HasElements
         (PutsMaster number.0 shared id.0) store.old store.new) }
-    ensures keeps { Keeps T.elements T.extents store.old store.new result }
-    ensures space { Spends T.room T.free (spent 2 80) store.old store.new }
-    ensures borrowed { (T.name store.new ≡ T.name store.old)
-        × (T.frame store.new ≡ T.frame store.old) }
-    ensures cause { HasStoreCause (content_of (T.elements store.old) (T.extents store.old))
-        (T.faults store.old) (T.faults store.new) result }
+    ensures keeps { KeepsTold T.HasElements store.old store.new result }
+    ensures space { SpendsAtMost T.HasElements (spent 2 80) store.old store.new }
+    ensures borrowed { KeepsFrame T.Counted store.old store.new }
+    ensures cause { HasContentCause T.HasElements store.old store.new result }
 {
     let record = new_master(alloc, shared)?;
     add_record(alloc, store, number, &record, id)?;
@@ -69,17 +57,15 @@ pub fn add_slave<T: ElementStore + Extents>(
     id: Id,
 ) -> Result<(), Fault>
     requires id { 1 ≤ id.0 }
-    requires balanced { Balanced (T.elements store.old) (T.extents store.old) }
+    requires balanced { InBalance T.HasElements store.old }
     requires unmade { IsUnmadeIn (T.elements store.old) (T.extents store.old) number.0 id.0 }
     requires room { HasRooms (T.room store.old) 1 32 }
-    ensures ok { OnOk result (Writes T.elements T.extents
+    ensures ok { OnOk result (WritesStore T.HasElements
         (PutsSlave number.0 shared id.0) store.old store.new) }
-    ensures keeps { Keeps T.elements T.extents store.old store.new result }
-    ensures space { Spends T.room T.free (spent 1 32) store.old store.new }
-    ensures borrowed { (T.name store.new ≡ T.name store.old)
-        × (T.frame store.new ≡ T.frame store.old) }
-    ensures cause { HasStoreCause (content_of (T.elements store.old) (T.extents store.old))
-        (T.faults store.old) (T.faults store.new) result }
+    ensures keeps { KeepsTold T.HasElements store.old store.new result }
+    ensures space { SpendsAtMost T.HasElements (spent 1 32) store.old store.new }
+    ensures borrowed { KeepsFrame T.Counted store.old store.new }
+    ensures cause { HasContentCause T.HasElements store.old store.new result }
 {
     add_record(alloc, store, number, &new_slave(alloc, shared), id)
 }
@@ -117,19 +103,17 @@ fn add_record<T: ElementStore + Extents>(
     id: Id,
 ) -> Result<(), Fault>
     requires id { 1 ≤ id.0 }
-    requires balanced { Balanced (T.elements store.old) (T.extents store.old) }
+    requires balanced { InBalance T.HasElements store.old }
     requires lacks { LacksElement (T.elements store.old)
         (made_record number.0 value.now id.0) }
     requires room { HasRooms (T.room store.old) 1 (rounded (length (pfs_bytes value.now))) }
-    ensures ok { OnOk result (Writes T.elements T.extents
+    ensures ok { OnOk result (WritesStore T.HasElements
         (Adds (made_record number.0 value.now id.0)) store.old store.new) }
-    ensures keeps { Keeps T.elements T.extents store.old store.new result }
-    ensures space { Spends T.room T.free
+    ensures keeps { KeepsTold T.HasElements store.old store.new result }
+    ensures space { SpendsAtMost T.HasElements
         (spent 1 (rounded (length (pfs_bytes value.now)))) store.old store.new }
-    ensures borrowed { (T.name store.new ≡ T.name store.old)
-        × (T.frame store.new ≡ T.frame store.old) }
-    ensures cause { HasStoreCause (content_of (T.elements store.old) (T.extents store.old))
-        (T.faults store.old) (T.faults store.new) result }
+    ensures borrowed { KeepsFrame T.Counted store.old store.new }
+    ensures cause { HasContentCause T.HasElements store.old store.new result }
 {
     let bytes = encode_record(alloc, value)?;
     let base = made_by(record_base(number), id);
@@ -144,17 +128,15 @@ fn add_root<T: ElementStore + Extents>(
     id: Id,
 ) -> Result<(), Fault>
     requires id { 1 ≤ id.0 }
-    requires balanced { Balanced (T.elements store.old) (T.extents store.old) }
+    requires balanced { InBalance T.HasElements store.old }
     requires lacks { LacksElement (T.elements store.old) (made_root number.0 id.0) }
     requires room { HasRooms (T.room store.old) 1 32 }
-    ensures ok { OnOk result (Writes T.elements T.extents
+    ensures ok { OnOk result (WritesStore T.HasElements
         (Adds (made_root number.0 id.0)) store.old store.new) }
-    ensures keeps { Keeps T.elements T.extents store.old store.new result }
-    ensures space { Spends T.room T.free (spent 1 32) store.old store.new }
-    ensures borrowed { (T.name store.new ≡ T.name store.old)
-        × (T.frame store.new ≡ T.frame store.old) }
-    ensures cause { HasStoreCause (content_of (T.elements store.old) (T.extents store.old))
-        (T.faults store.old) (T.faults store.new) result }
+    ensures keeps { KeepsTold T.HasElements store.old store.new result }
+    ensures space { SpendsAtMost T.HasElements (spent 1 32) store.old store.new }
+    ensures borrowed { KeepsFrame T.Counted store.old store.new }
+    ensures cause { HasContentCause T.HasElements store.old store.new result }
 {
     let inode = Inode {
         kind: DIRECTORY,

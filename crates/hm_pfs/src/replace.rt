@@ -1,13 +1,11 @@
 // The record of a pseudo file system, with another one in its place.
 ghost use Rattle.std.specs.Prelude.{◌≡◌, IfSome, IsNone, OnOk, Some};
-ghost use Rattle.hm_types.specs.Faults.{HasStoreCause};
-ghost use Rattle.hm_types.specs.Space.{Spends, nothing};
+ghost use Rattle.hm_types.specs.Space.{nothing};
 ghost use Rattle.hm_types.specs.declared.zone.TheConstants.{META_ZONE};
-ghost use Rattle.hm_key.specs.Balance.{Balanced, content_of};
 ghost use Rattle.hm_key.specs.Elements.{element_at, element_key};
-ghost use Rattle.hm_key.specs.Stores.{Keeps};
+ghost use Rattle.hm_key.specs.Members.{HasContentCause, InBalance, KeepsFrame, KeepsTold, SpendsAtMost};
 ghost use Rattle.hm_records.specs.PfsRecord.{pfs_bytes};
-ghost use Rattle.hm_cursor.specs.Write.{HasRoomFor, Writes, taken};
+ghost use Rattle.hm_cursor.specs.Write.{HasRoomFor, WritesStore, taken};
 ghost use Rattle.hm_pfs.specs.Records.{LosesKey, SetsRecord};
 
 use crate::payload::encode_record;
@@ -29,17 +27,15 @@ pub fn replace_record<T: ElementStore + Extents>(
     pfs: Pfs,
     to: &PfsRecord,
 ) -> Result<(), Fault>
-    requires balanced { Balanced (T.elements store.old) (T.extents store.old) }
+    requires balanced { InBalance T.HasElements store.old }
     requires room { HasRoomFor (T.room store.old) META_ZONE (pfs_bytes to.now) }
-    ensures ok { OnOk result (Writes T.elements T.extents
+    ensures ok { OnOk result (WritesStore T.HasElements
         (SetsRecord pfs.0 (pfs_bytes to.now)) store.old store.new) }
-    ensures keeps { Keeps T.elements T.extents store.old store.new result }
-    ensures space { Spends T.room T.free (taken META_ZONE (pfs_bytes to.now))
+    ensures keeps { KeepsTold T.HasElements store.old store.new result }
+    ensures space { SpendsAtMost T.HasElements (taken META_ZONE (pfs_bytes to.now))
         store.old store.new }
-    ensures borrowed { (T.name store.new ≡ T.name store.old)
-        × (T.frame store.new ≡ T.frame store.old) }
-    ensures cause { HasStoreCause (content_of (T.elements store.old) (T.extents store.old))
-        (T.faults store.old) (T.faults store.new) result }
+    ensures borrowed { KeepsFrame T.Counted store.old store.new }
+    ensures cause { HasContentCause T.HasElements store.old store.new result }
 {
     let bytes = encode_record(alloc, to)?;
     let Some(old) = version_at(store, &record_base(pfs), Id(u64::MAX))? else {
@@ -51,19 +47,17 @@ pub fn replace_record<T: ElementStore + Extents>(
 
 // Removes an element, and gives its reference back.
 fn remove_element<T: ElementStore + Extents>(store: &mut T, element: &Element) -> Result<(), Fault>
-    requires balanced { Balanced (T.elements store.old) (T.extents store.old) }
+    requires balanced { InBalance T.HasElements store.old }
     requires there { IfSome (T.elements store.old) (λ es.
         element_at (element_key element.now) es ≡ Some element.now) }
-    ensures ok { OnOk result (Writes T.elements T.extents (LosesKey (element_key element.now))
+    ensures ok { OnOk result (WritesStore T.HasElements (LosesKey (element_key element.now))
         store.old store.new) }
     ensures gone { OnOk result (IfSome (T.elements store.new) (λ es.
         IsNone (element_at (element_key element.now) es))) }
-    ensures keeps { Keeps T.elements T.extents store.old store.new result }
-    ensures space { Spends T.room T.free nothing store.old store.new }
-    ensures borrowed { (T.name store.new ≡ T.name store.old)
-        × (T.frame store.new ≡ T.frame store.old) }
-    ensures cause { HasStoreCause (content_of (T.elements store.old) (T.extents store.old))
-        (T.faults store.old) (T.faults store.new) result }
+    ensures keeps { KeepsTold T.HasElements store.old store.new result }
+    ensures space { SpendsAtMost T.HasElements nothing store.old store.new }
+    ensures borrowed { KeepsFrame T.Counted store.old store.new }
+    ensures cause { HasContentCause T.HasElements store.old store.new result }
 {
     store.remove(&element.base)?;
     store.give_back(element.payload, element.len)

@@ -1,8 +1,7 @@
 // The numbers of pseudo file systems that are unused.
 ghost use Rattle.std.specs.Prelude.{◌≡◌, IfOk, IfSome};
-ghost use Rattle.hm_types.specs.Faults.{HasStoreCause};
 ghost use Rattle.hm_key.specs.Balance.{content_of};
-ghost use Rattle.hm_key.specs.Stores.{Same};
+ghost use Rattle.hm_key.specs.Members.{HasElementsCause, IsSame, KeepsFrame};
 ghost use Rattle.hm_cursor.specs.Told.{fulls};
 ghost use Rattle.hm_pfs.specs.Records.{IsLeastUnused};
 
@@ -22,11 +21,9 @@ pub fn unused_from<T: ElementStore + Extents>(
 ) -> Result<Option<Pfs>, Fault>
     ensures ok { IfSome (content_of (T.elements store.old) (T.extents store.old)) (λ lists.
         IfOk result (IsLeastUnused (fulls lists) from)) }
-    ensures keeps { Same T.elements T.mark T.extents T.room T.free store.old store.new }
-    ensures borrowed { (T.name store.new ≡ T.name store.old)
-        × (T.frame store.new ≡ T.frame store.old) }
-    ensures cause { HasStoreCause (T.elements store.old)
-        (T.faults store.old) (T.faults store.new) result }
+    ensures keeps { IsSame T.HasElements store.old store.new }
+    ensures borrowed { KeepsFrame T.Counted store.old store.new }
+    ensures cause { HasElementsCause T.HasElements store.old store.new result }
 {
     let mut number = from;
     while number < PFS_NUMBERS {

@@ -14,7 +14,7 @@ GainsHalf calls before piece after =
 
 -- the whole change of a call of `put`: a listed call fails with half of the piece gained, and any other
 -- gains all of it, or fails for want of memory with nothing gained
-pub record Puts {E : Type 0} (old new : SinkState) (piece : List ℕ) (result : Result (Unit {0}) E)
+pub record PutChange {E : Type 0} (old new : SinkState) (piece : List ℕ) (result : Result (Unit {0}) E)
     : Type 0 where
   pub listed : IsNextListed old.calls → IsErr result
   pub ok : OnOk result (new ≡ record { held = old.held ++ piece; calls = called old.calls })

@@ -9,7 +9,7 @@ pub record SourceState : Type 0 where
 
 -- the whole change of a call of `take`: a listed call fails and takes nothing, and any other gives as
 -- many bytes as fit the buffer or are left, at its front
-pub record Takes {E : Type 0} (old new : SourceState) (before after : List ℕ) (result : Result ℕ E)
+pub record TakeChange {E : Type 0} (old new : SourceState) (before after : List ℕ) (result : Result ℕ E)
     : Type 0 where
   pub fails : IsErr result ↔ IsNextListed old.calls
   pub count : IfOk result (λ n. n ≡ min (length before) (length old.rest))

@@ -2,7 +2,7 @@
 ghost use Rattle.std.specs.Prelude.{◌≡◌, [], Some};
 ghost use Rattle.hm_types.specs.Calls.{no_calls};
 ghost use Rattle.hm_types.specs.Faults.{HasCause};
-ghost use Rattle.hm_pipe.specs.MemSink.{SinkState, Puts};
+ghost use Rattle.hm_pipe.specs.MemSink.{SinkState, PutChange};
 
 use crate::sink::Sink;
 use hm_types::{Calls, Failed};
@@ -51,7 +51,7 @@ impl Sink for MemSink {
     /// want of memory a call is `Failed` too, and appends nothing.
     fn put(&mut self, piece: &[u8]) -> Result<(), Failed>
         ensures cause { HasCause self.old.calls.faults self.new.calls.faults result }
-        ensures change { Puts self.old self.new piece.now result }
+        ensures change { PutChange self.old self.new piece.now result }
     {
         if self.calls.begin().is_err() {
             // The call has failed already, so a refused growth is no second fault.

@@ -2,7 +2,7 @@
 ghost use Rattle.std.specs.Prelude.{◌≡◌, ◌≤◌, Some, IfOk, length, drop, vec_len};
 ghost use Rattle.hm_types.specs.Calls.{no_calls};
 ghost use Rattle.hm_types.specs.Faults.{HasCause};
-ghost use Rattle.hm_pipe.specs.MemSource.{SourceState, Takes};
+ghost use Rattle.hm_pipe.specs.MemSource.{SourceState, TakeChange};
 
 use crate::source::Source;
 use hm_types::{Calls, Failed};
@@ -48,7 +48,7 @@ impl Source for MemSource {
     fn take(&mut self, buf: &mut [u8]) -> Result<usize, Failed>
         ensures within { IfOk result (λ n. n ≤ length buf.new) }
         ensures cause { HasCause self.old.calls.faults self.new.calls.faults result }
-        ensures change { Takes self.old self.new buf.old buf.new result }
+        ensures change { TakeChange self.old self.new buf.old buf.new result }
     {
         self.calls.begin()?;
         let count = buf.len().min(self.bytes.len() - self.at);

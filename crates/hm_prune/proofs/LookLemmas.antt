@@ -12,7 +12,7 @@ use Rattle.hm_key.proofs.RiseLemmas.{from_rises}
 use Rattle.hm_cursor.specs.Shown.{IsAfter, IsToCome}
 use Rattle.hm_cursor.proofs.SearchLemmas.{IsFirstFrom, found_none}
 use Rattle.hm_cursor.proofs.VersionLemmas.{first_before}
-use Rattle.hm_prune.specs.Dead.{IsDeadIn, NoneDead, first_key}
+use Rattle.hm_prune.specs.Dead.{IsDeadIn, NoneDead, first_key_of}
 
 -- each dead element is still to come
 abbrev pub NonePassed : ℕ → List (ℕ × ℕ) → List Element → Option Base → Type 0
@@ -20,10 +20,10 @@ NonePassed pfs kept es from =
     (e : Element) → Contains es e → IsWide (element_key e) → IsDeadIn pfs kept e.base → IsToCome from (element_key e)
 
 -- a look begins before each element of the pseudo file system
-pub begins : (pfs : ℕ) (kept : List (ℕ × ℕ)) (es : List Element) (first : Base) → IsBoundary first (first_key pfs) → NonePassed pfs kept es (Some first)
+pub begins : (pfs : ℕ) (kept : List (ℕ × ℕ)) (es : List Element) (first : Base) → IsBoundary first (first_key_of pfs) → NonePassed pfs kept es (Some first)
 begins pfs kept es first boundary e has wide dead =
     subst (λ (k : Key). IsFrom k (element_key e)) (sym boundary.key)
-    (key_from_fields (first_key pfs) (element_key e) (omega (arith, dead.here)) (omega arith) (omega arith) (omega arith) (omega arith))
+    (key_from_fields (first_key_of pfs) (element_key e) (omega (arith, dead.here)) (omega arith) (omega arith) (omega arith) (omega arith))
 
 -- nothing is dead where a search from there finds nothing
 pub none_found : (pfs : ℕ) (kept : List (ℕ × ℕ)) (es : List Element) (at : Base) → first_from (key_of at) es ≡ None → NonePassed pfs kept es (Some at)

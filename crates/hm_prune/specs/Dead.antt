@@ -27,5 +27,5 @@ IsFirstDead pfs kept es None = NoneDead pfs kept es
 IsFirstDead pfs kept es (Some e) = element_at (element_key e) es ≡ Some e
 
 -- the key from which on the elements of a pseudo file system stand
-abbrev pub first_key : ℕ → Key
-first_key pfs = record { localization = pfs * 2 ^ 16; obj = 0; rec_type = 0; key = 0; create = 0 }
+abbrev pub first_key_of : ℕ → Key
+first_key_of pfs = record { localization = pfs * 2 ^ 16; obj = 0; rec_type = 0; key = 0; create = 0 }

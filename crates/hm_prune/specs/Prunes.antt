@@ -7,14 +7,14 @@ use Rattle.hm_key.specs.Extents.{Extent}
 use Rattle.hm_key.specs.Key.{IsBoundary}
 use Rattle.hm_key.specs.Marks.{NoneFall}
 use Rattle.hm_key.specs.declared.element.Element.{Element}
-use Rattle.hm_prune.specs.Dead.{NoneDead, first_key}
+use Rattle.hm_prune.specs.Dead.{NoneDead, first_key_of}
 use Rattle.hm_prune.specs.declared.prune.Prune.{Prune}
 
 -- a prune of this pseudo file system for these ids, whose walk begins before the first element
 pub record BeginsFor (pfs : ℕ) (kept : List (ℕ × ℕ)) (prune : Prune) : Type 0 where
   pub number : prune.pfs.0 ≡ pfs
   pub ids : prune.kept ≡ kept
-  pub first : IsSomeAnd prune.from (λ at. IsBoundary at (first_key pfs))
+  pub first : IsSomeAnd prune.from (λ at. IsBoundary at (first_key_of pfs))
 
 -- the element went, where elements are told
 abbrev pub Removes : Element → Option (List Element) → Option (List Element) → Type 0

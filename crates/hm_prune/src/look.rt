@@ -1,7 +1,6 @@
 // One look through a whole pseudo file system.
 ghost use Rattle.std.specs.Prelude.{◌≡◌, IfOk, IfSome};
-ghost use Rattle.hm_types.specs.Faults.{HasStoreCause};
-ghost use Rattle.hm_key.specs.Stores.{Same};
+ghost use Rattle.hm_key.specs.Members.{HasElementsCause, IsSame};
 ghost use Rattle.hm_prune.specs.Dead.{IsDeadIn, IsFirstDead};
 
 use crate::prune::{Prune, first_of};
@@ -19,11 +18,10 @@ impl Prune {
             IfOk result (IsFirstDead self.now.pfs.0 self.now.kept es)) }
         ensures dead { IfOk result (λ found. IfSome found (λ e.
             IsDeadIn self.now.pfs.0 self.now.kept e.base)) }
-        ensures keeps { Same T.elements T.mark T.extents T.room T.free store.old store.new }
+        ensures keeps { IsSame T.HasElements store.old store.new }
         ensures name { T.name store.new ≡ T.name store.old }
         ensures frame { T.frame store.new ≡ T.frame store.old }
-        ensures cause { HasStoreCause (T.elements store.old)
-            (T.faults store.old) (T.faults store.new) result }
+        ensures cause { HasElementsCause T.HasElements store.old store.new result }
     {
         let mut from = Some(first_of(self.pfs));
         while let Some(at) = from {

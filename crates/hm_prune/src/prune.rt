@@ -1,9 +1,9 @@
 // The job of a prune.
 ghost use Rattle.std.specs.Prelude.{◌≡◌, ◌↔◌, IsTrue, IfSome, false};
-ghost use Rattle.hm_key.specs.Balance.{Balanced};
 ghost use Rattle.hm_key.specs.Key.{IsBoundary};
 ghost use Rattle.hm_key.specs.Sweep.{place_from};
-ghost use Rattle.hm_prune.specs.Dead.{IsDeadIn, NoneDead, first_key, keeps_in};
+ghost use Rattle.hm_key.specs.Members.{InBalance};
+ghost use Rattle.hm_prune.specs.Dead.{IsDeadIn, NoneDead, first_key_of, keeps_in};
 ghost use Rattle.hm_prune.specs.Prunes.{BeginsFor, carried};
 
 use hm_key::{Base, ElementStore, Extents, Job, Progress};
@@ -52,7 +52,7 @@ impl Prune {
 
 /// The boundary before all elements of a pseudo file system.
 pub(crate) fn first_of(pfs: Pfs) -> Base
-    ensures { IsBoundary result (first_key pfs.0) }
+    ensures { IsBoundary result (first_key_of pfs.0) }
 {
     Base {
         localization: u32::from(pfs.0) * 65_536,
@@ -61,11 +61,11 @@ pub(crate) fn first_of(pfs: Pfs) -> Base
 }
 
 impl<T: ElementStore + Extents> Job<T> for Prune {
-    ghost fits = { λ _ s. Balanced (T.elements s) (T.extents s) };
+    ghost fits = { λ _ s. InBalance T.HasElements s };
 
-    ghost goes = { λ _ s. Balanced (T.elements s) (T.extents s) };
+    ghost goes = { λ _ s. InBalance T.HasElements s };
 
-    ghost ends = { λ j s. Balanced (T.elements s) (T.extents s)
+    ghost ends = { λ j s. InBalance T.HasElements s
         × IfSome (T.elements s) (NoneDead j.pfs.0 j.kept) };
 
     ghost kept = { λ j. keeps_in j.pfs.0 j.kept };

@@ -1,11 +1,10 @@
 // A stretch of a walk through a pseudo file system, with what is removed on it.
 ghost use Rattle.std.specs.Prelude.{◌≡◌, ◌≤◌, IfOk, IfSome, OnOk, Some, true};
-ghost use Rattle.hm_types.specs.Faults.{HasStoreCause};
-ghost use Rattle.hm_types.specs.Space.{Spends, nothing};
-ghost use Rattle.hm_key.specs.Balance.{Balanced, content_of};
+ghost use Rattle.hm_types.specs.Space.{nothing};
 ghost use Rattle.hm_key.specs.Elements.{element_at, element_key};
 ghost use Rattle.hm_key.specs.Job.{ComesFurther};
 ghost use Rattle.hm_key.specs.Sweep.{place_from};
+ghost use Rattle.hm_key.specs.Members.{HasContentCause, InBalance, SpendsAtMost};
 ghost use Rattle.hm_prune.specs.Dead.{IsDeadIn, keeps_in};
 ghost use Rattle.hm_prune.specs.Prunes.{LosesAtMost, Prunes, Removes};
 
@@ -36,18 +35,17 @@ impl Prune {
         store: &mut T,
         from: &Base,
     ) -> Result<Option<Base>, Fault>
-        requires balanced { Balanced (T.elements store.old) (T.extents store.old) }
+        requires balanced { InBalance T.HasElements store.old }
         ensures ok { OnOk result (Prunes T.elements T.mark T.extents
             (keeps_in self.now.pfs.0 self.now.kept) store.old store.new) }
-        ensures space { Spends T.room T.free nothing store.old store.new }
+        ensures space { SpendsAtMost T.HasElements nothing store.old store.new }
         ensures further { IfOk result (λ next.
             ComesFurther (place_from (Some from.now)) (place_from next)) }
         ensures few { OnOk result
             (LosesAtMost 64 (T.elements store.old) (T.elements store.new)) }
         ensures name { T.name store.new ≡ T.name store.old }
         ensures frame { T.frame store.new ≡ T.frame store.old }
-        ensures cause { HasStoreCause (content_of (T.elements store.old) (T.extents store.old))
-            (T.faults store.old) (T.faults store.new) result }
+        ensures cause { HasContentCause T.HasElements store.old store.new result }
     {
         let mut step = self.step(store, from)?;
         for _ in 1..MOST_LOOKS {
@@ -66,10 +64,10 @@ impl Prune {
 
     // Looks at the first element from a key on, and removes it if it is dead.
     fn step<T: ElementStore + Extents>(&self, store: &mut T, at: &Base) -> Result<Step, Fault>
-        requires balanced { Balanced (T.elements store.old) (T.extents store.old) }
+        requires balanced { InBalance T.HasElements store.old }
         ensures ok { OnOk result (Prunes T.elements T.mark T.extents
             (keeps_in self.now.pfs.0 self.now.kept) store.old store.new) }
-        ensures space { Spends T.room T.free nothing store.old store.new }
+        ensures space { SpendsAtMost T.HasElements nothing store.old store.new }
         ensures further { IfOk result (λ step.
             ComesFurther (place_from (Some at.now)) (place_from step.next)) }
         ensures one { IfOk result (λ step. step.removed ≤ 1) }
@@ -77,8 +75,7 @@ impl Prune {
             LosesAtMost step.removed (T.elements store.old) (T.elements store.new)) }
         ensures name { T.name store.new ≡ T.name store.old }
         ensures frame { T.frame store.new ≡ T.frame store.old }
-        ensures cause { HasStoreCause (content_of (T.elements store.old) (T.extents store.old))
-            (T.faults store.old) (T.faults store.new) result }
+        ensures cause { HasContentCause T.HasElements store.old store.new result }
     {
         let end = Step {
             next: None,
@@ -104,19 +101,18 @@ impl Prune {
         store: &mut T,
         element: &Element,
     ) -> Result<(), Fault>
-        requires balanced { Balanced (T.elements store.old) (T.extents store.old) }
+        requires balanced { InBalance T.HasElements store.old }
         requires there { IfSome (T.elements store.old) (λ es.
             element_at (element_key element.now) es ≡ Some element.now) }
         requires dead { IsDeadIn self.now.pfs.0 self.now.kept element.now.base }
         ensures ok { OnOk result (Prunes T.elements T.mark T.extents
             (keeps_in self.now.pfs.0 self.now.kept) store.old store.new) }
-        ensures space { Spends T.room T.free nothing store.old store.new }
+        ensures space { SpendsAtMost T.HasElements nothing store.old store.new }
         ensures gone { OnOk result (Removes element.now
             (T.elements store.old) (T.elements store.new)) }
         ensures name { T.name store.new ≡ T.name store.old }
         ensures frame { T.frame store.new ≡ T.frame store.old }
-        ensures cause { HasStoreCause (content_of (T.elements store.old) (T.extents store.old))
-            (T.faults store.old) (T.faults store.new) result }
+        ensures cause { HasContentCause T.HasElements store.old store.new result }
     {
         store.remove(&element.base)?;
         store.give_back(element.payload, element.len)

@@ -1,11 +1,11 @@
 // One extent moved, with the elements that refer to it.
 ghost use Rattle.std.specs.Prelude.{◌≡◌, ◌≤◌, IfOk, IfSome, OnOk, Some, length};
-ghost use Rattle.hm_types.specs.Faults.{HasStoreCause};
 ghost use Rattle.hm_types.specs.Offset.{zone_of};
-ghost use Rattle.hm_types.specs.Space.{IsPayloadZone, Spends, in_zone, nothing, rounded};
+ghost use Rattle.hm_types.specs.Space.{IsPayloadZone, in_zone, nothing, rounded};
 ghost use Rattle.hm_types.specs.declared.space.TheConstants.{PAYLOAD_RESERVE};
-ghost use Rattle.hm_key.specs.Balance.{Balanced, IsHeld, content_of};
+ghost use Rattle.hm_key.specs.Balance.{IsHeld};
 ghost use Rattle.hm_key.specs.Elements.{element_at, element_key};
+ghost use Rattle.hm_key.specs.Members.{HasContentCause, InBalance, SpendsAtMost};
 ghost use Rattle.hm_reblock.specs.Moving.{AreTwins, Copies, IsAway, IsFreshPlace, MovesElement, Relocates};
 
 use hm_key::{Element, ElementStore, Extents};
@@ -19,7 +19,7 @@ pub(crate) fn copy_extent<T: ElementStore + Extents>(
     store: &mut T,
     element: &Element,
 ) -> Result<HOff, Fault>
-    requires balanced { Balanced (T.elements store.old) (T.extents store.old) }
+    requires balanced { InBalance T.HasElements store.old }
     requires there { IfSome (T.elements store.old) (λ es.
         element_at (element_key element.now) es ≡ Some element.now) }
     requires some { 1 ≤ element.now.len }
@@ -27,12 +27,11 @@ pub(crate) fn copy_extent<T: ElementStore + Extents>(
     requires room { PAYLOAD_RESERVE ≤ T.room store.old (zone_of element.now.payload) }
     ensures ok { IfOk result (λ to. Copies T.elements T.mark T.extents element.now to
         store.old store.new) }
-    ensures space { Spends T.room T.free (in_zone (zone_of element.now.payload) PAYLOAD_RESERVE)
+    ensures space { SpendsAtMost T.HasElements (in_zone (zone_of element.now.payload) PAYLOAD_RESERVE)
         store.old store.new }
     ensures name { T.name store.new ≡ T.name store.old }
     ensures frame { T.frame store.new ≡ T.frame store.old }
-    ensures cause { HasStoreCause (content_of (T.elements store.old) (T.extents store.old))
-        (T.faults store.old) (T.faults store.new) result }
+    ensures cause { HasContentCause T.HasElements store.old store.new result }
 {
     if element.len > PAYLOAD_RESERVE {
         return Err(Fault::NoMemory);
@@ -48,7 +47,7 @@ fn copy_through<T: ElementStore + Extents>(
     element: &Element,
     buffer: &mut [u8],
 ) -> Result<HOff, Fault>
-    requires balanced { Balanced (T.elements store.old) (T.extents store.old) }
+    requires balanced { InBalance T.HasElements store.old }
     requires there { IfSome (T.elements store.old) (λ es.
         element_at (element_key element.now) es ≡ Some element.now) }
     requires some { 1 ≤ element.now.len }
@@ -57,12 +56,11 @@ fn copy_through<T: ElementStore + Extents>(
     requires long { length buffer.old ≡ rounded element.now.len }
     ensures ok { IfOk result (λ to. Copies T.elements T.mark T.extents element.now to
         store.old store.new) }
-    ensures space { Spends T.room T.free (in_zone (zone_of element.now.payload)
+    ensures space { SpendsAtMost T.HasElements (in_zone (zone_of element.now.payload)
         (rounded element.now.len)) store.old store.new }
     ensures name { T.name store.new ≡ T.name store.old }
     ensures frame { T.frame store.new ≡ T.frame store.old }
-    ensures cause { HasStoreCause (content_of (T.elements store.old) (T.extents store.old))
-        (T.faults store.old) (T.faults store.new) result }
+    ensures cause { HasContentCause T.HasElements store.old store.new result }
 {
     store.fetch(element.payload, buffer)?;
     store.place(element.payload.zone(), buffer)
@@ -80,11 +78,10 @@ pub(crate) fn readdress_element<T: ElementStore + Extents>(
     requires held { IfSome (T.extents store.old) (λ xs. IsHeld xs element.now) }
     ensures ok { OnOk result (MovesElement T.elements T.mark T.extents element.now to
         store.old store.new) }
-    ensures space { Spends T.room T.free nothing store.old store.new }
+    ensures space { SpendsAtMost T.HasElements nothing store.old store.new }
     ensures name { T.name store.new ≡ T.name store.old }
     ensures frame { T.frame store.new ≡ T.frame store.old }
-    ensures cause { HasStoreCause (content_of (T.elements store.old) (T.extents store.old))
-        (T.faults store.old) (T.faults store.new) result }
+    ensures cause { HasContentCause T.HasElements store.old store.new result }
 {
     store.readdress(&element.base, to)?;
     store.give_back(element.payload, element.len)
@@ -96,7 +93,7 @@ pub(crate) fn move_first<T: ElementStore + Extents>(
     store: &mut T,
     element: &Element,
 ) -> Result<HOff, Fault>
-    requires balanced { Balanced (T.elements store.old) (T.extents store.old) }
+    requires balanced { InBalance T.HasElements store.old }
     requires there { IfSome (T.elements store.old) (λ es.
         element_at (element_key element.now) es ≡ Some element.now) }
     requires some { 1 ≤ element.now.len }
@@ -107,12 +104,11 @@ pub(crate) fn move_first<T: ElementStore + Extents>(
     ensures away { IfOk result (λ _. IfSome (T.elements store.new)
         (IsAway element.now.payload element.now)) }
     ensures place { IfOk result (λ to. IsFreshPlace (T.extents store.old) element.now.payload to) }
-    ensures space { Spends T.room T.free (in_zone (zone_of element.now.payload) PAYLOAD_RESERVE)
+    ensures space { SpendsAtMost T.HasElements (in_zone (zone_of element.now.payload) PAYLOAD_RESERVE)
         store.old store.new }
     ensures name { T.name store.new ≡ T.name store.old }
     ensures frame { T.frame store.new ≡ T.frame store.old }
-    ensures cause { HasStoreCause (content_of (T.elements store.old) (T.extents store.old))
-        (T.faults store.old) (T.faults store.new) result }
+    ensures cause { HasContentCause T.HasElements store.old store.new result }
 {
     let to = copy_extent(alloc, store, element)?;
     readdress_element(store, element, to)?;
@@ -125,7 +121,7 @@ pub(crate) fn move_sharer<T: ElementStore + Extents>(
     element: &Element,
     to: HOff,
 ) -> Result<(), Fault>
-    requires balanced { Balanced (T.elements store.old) (T.extents store.old) }
+    requires balanced { InBalance T.HasElements store.old }
     requires there { IfSome (T.elements store.old) (λ es.
         element_at (element_key element.now) es ≡ Some element.now) }
     requires twins { IfSome (T.extents store.old) (AreTwins 64 element.now.payload to) }
@@ -133,11 +129,10 @@ pub(crate) fn move_sharer<T: ElementStore + Extents>(
         store.old store.new) }
     ensures away { OnOk result (IfSome (T.elements store.new)
         (IsAway element.now.payload element.now)) }
-    ensures space { Spends T.room T.free nothing store.old store.new }
+    ensures space { SpendsAtMost T.HasElements nothing store.old store.new }
     ensures name { T.name store.new ≡ T.name store.old }
     ensures frame { T.frame store.new ≡ T.frame store.old }
-    ensures cause { HasStoreCause (content_of (T.elements store.old) (T.extents store.old))
-        (T.faults store.old) (T.faults store.new) result }
+    ensures cause { HasContentCause T.HasElements store.old store.new result }
 {
     store.share(to, element.len)?;
     readdress_element(store, element, to)

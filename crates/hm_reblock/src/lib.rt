@@ -1,4 +1,4 @@
-//! The reblock of a volume: the job that moves what lies in chosen big-blocks elsewhere.
+//! The reblock of a volume: the job that moves the payloads that lie in chosen big-blocks elsewhere.
 #![tactic(auto)]
 
 mod choice;

@@ -1,11 +1,10 @@
 // Looks for elements whose payload lies in the choice.
 ghost use Rattle.std.specs.Prelude.{◌≡◌, ◌↔◌, IfErr, IfOk, IfSome, IsTrue, OnOk, Some};
 ghost use Rattle.std.specs.List.{Contains};
-ghost use Rattle.hm_types.specs.Faults.{HasStoreCause};
 ghost use Rattle.hm_types.specs.declared.fault.Fault.TheVariants.{NoMemory as no_memory};
 ghost use Rattle.hm_key.specs.Elements.{element_at, element_key};
 ghost use Rattle.hm_key.specs.Key.{IsBefore, IsFrom, key_of};
-ghost use Rattle.hm_key.specs.Stores.{Same};
+ghost use Rattle.hm_key.specs.Members.{HasElementsCause, IsSame};
 ghost use Rattle.hm_cursor.specs.Shown.{IsToCome};
 ghost use Rattle.hm_reblock.specs.Choice.{AllNoted, IsInChoice, IsFirstInChoice, IsFront, IsStill, StandsStill};
 
@@ -29,11 +28,10 @@ impl Choice {
         ensures chosen { IfOk result (λ found. IfSome found (IsInChoice self.now)) }
         ensures onward { IfOk result (λ found. IfSome found (λ e.
             IsFrom (key_of from.now) (element_key e))) }
-        ensures keeps { Same T.elements T.mark T.extents T.room T.free store.old store.new }
+        ensures keeps { IsSame T.HasElements store.old store.new }
         ensures name { T.name store.new ≡ T.name store.old }
         ensures frame { T.frame store.new ≡ T.frame store.old }
-        ensures cause { HasStoreCause (T.elements store.old)
-            (T.faults store.old) (T.faults store.new) result }
+        ensures cause { HasElementsCause T.HasElements store.old store.new result }
     {
         let mut next = Some(*from);
         while let Some(at) = next {
@@ -59,11 +57,10 @@ impl Choice {
         ensures chosen { IfOk result (λ found. IfSome found (IsInChoice self.now)) }
         ensures onward { IfOk result (λ found. IfSome found (λ e.
             IsToCome from (element_key e))) }
-        ensures keeps { Same T.elements T.mark T.extents T.room T.free store.old store.new }
+        ensures keeps { IsSame T.HasElements store.old store.new }
         ensures name { T.name store.new ≡ T.name store.old }
         ensures frame { T.frame store.new ≡ T.frame store.old }
-        ensures cause { HasStoreCause (T.elements store.old)
-            (T.faults store.old) (T.faults store.new) result }
+        ensures cause { HasElementsCause T.HasElements store.old store.new result }
     {
         match from {
             Some(at) => self.first_from(store, &at),
@@ -81,11 +78,10 @@ impl Choice {
         ensures ok { IfSome (T.elements store.old) (λ es.
             IfOk result (StandsStill self.now es known.now)) }
         ensures found { IfOk result (λ found. IfSome found (IsStill self.now known.now)) }
-        ensures keeps { Same T.elements T.mark T.extents T.room T.free store.old store.new }
+        ensures keeps { IsSame T.HasElements store.old store.new }
         ensures name { T.name store.new ≡ T.name store.old }
         ensures frame { T.frame store.new ≡ T.frame store.old }
-        ensures cause { HasStoreCause (T.elements store.old)
-            (T.faults store.old) (T.faults store.new) result }
+        ensures cause { HasElementsCause T.HasElements store.old store.new result }
     {
         let Some(element) = store.first_at_or_after(&known.base)? else {
             return Ok(None);
@@ -119,11 +115,10 @@ impl Choice {
         ensures all { IfSome (T.elements store.old) (λ es. IfOk result (λ next.
             AllNoted self.now es (key_of from.now) next known.new.items)) }
         ensures noted { IsFront known.old.items known.new.items }
-        ensures keeps { Same T.elements T.mark T.extents T.room T.free store.old store.new }
+        ensures keeps { IsSame T.HasElements store.old store.new }
         ensures name { T.name store.new ≡ T.name store.old }
         ensures frame { T.frame store.new ≡ T.frame store.old }
-        ensures cause { HasStoreCause (T.elements store.old)
-            (T.faults store.old) (T.faults store.new) result }
+        ensures cause { HasElementsCause T.HasElements store.old store.new result }
     {
         let mut next = self.note(store, from, known)?;
         for _ in 1..MOST_LOOKS {
@@ -148,11 +143,10 @@ impl Choice {
         ensures all { IfSome (T.elements store.old) (λ es. IfOk result (λ next.
             AllNoted self.now es (key_of at.now) next known.new.items)) }
         ensures noted { IsFront known.old.items known.new.items }
-        ensures keeps { Same T.elements T.mark T.extents T.room T.free store.old store.new }
+        ensures keeps { IsSame T.HasElements store.old store.new }
         ensures name { T.name store.new ≡ T.name store.old }
         ensures frame { T.frame store.new ≡ T.frame store.old }
-        ensures cause { HasStoreCause (T.elements store.old)
-            (T.faults store.old) (T.faults store.new) result }
+        ensures cause { HasElementsCause T.HasElements store.old store.new result }
     {
         let Some(element) = store.first_at_or_after(at)? else {
             return Ok(None);

@@ -1,10 +1,9 @@
 // The job of a reblock.
 ghost use Rattle.std.specs.Prelude.{◌≡◌, IfOk, IfSome, None, true};
 ghost use Rattle.std.specs.List.Sorted.{IsNonDecreasing};
-ghost use Rattle.hm_types.specs.Faults.{HasStoreCause};
-ghost use Rattle.hm_key.specs.Balance.{Balanced, content_of};
 ghost use Rattle.hm_key.specs.Calls.{KeepsJob, UnitDone};
 ghost use Rattle.hm_key.specs.Job.{HasMoreCause, IfProgress};
+ghost use Rattle.hm_key.specs.Members.{HasContentCause, InBalance};
 ghost use Rattle.hm_reblock.specs.declared.reblock.Reblock.{Reblock};
 ghost use Rattle.hm_reblock.specs.Choice.{NoneChosen, SomeChosen, without_block};
 ghost use Rattle.hm_reblock.specs.Stages.{BeginsWithChoice, HasReserveFor, MovesOne, carried, next_of, reblock_place};
@@ -66,13 +65,13 @@ impl Reblock {
 }
 
 impl<T: ElementStore + Extents> Job<T> for Reblock {
-    ghost fits = { λ j s. Balanced (T.elements s) (T.extents s)
+    ghost fits = { λ j s. InBalance T.HasElements s
         × HasReserveFor (T.room s) (next_of j) };
 
-    ghost goes = { λ j s. Balanced (T.elements s) (T.extents s)
+    ghost goes = { λ j s. InBalance T.HasElements s
         × IfSome (T.elements s) (SomeChosen j.choice) };
 
-    ghost ends = { λ j s. Balanced (T.elements s) (T.extents s)
+    ghost ends = { λ j s. InBalance T.HasElements s
         × IfSome (T.elements s) (NoneChosen j.choice) };
 
     ghost kept = { λ _ _. None };
@@ -85,16 +84,16 @@ impl<T: ElementStore + Extents> Job<T> for Reblock {
         (T.extents s) (T.extents t) (T.room s) (T.room t) same.elements same.extents same.room };
 
     fn unit(&mut self, store: &mut T) -> Result<Progress, Fault>
-        requires fits { Balanced (T.elements store.old) (T.extents store.old)
+        requires fits { InBalance T.HasElements store.old
             × HasReserveFor (T.room store.old) (next_of self.old) }
         ensures progress { IfOk result (IfProgress
-            (Balanced (T.elements store.new) (T.extents store.new)
+            (InBalance T.HasElements store.new
             × IfSome (T.elements store.new) (SomeChosen self.new.choice))
-            (Balanced (T.elements store.new) (T.extents store.new)
+            (InBalance T.HasElements store.new
             × IfSome (T.elements store.new) (NoneChosen self.new.choice))) }
         ensures more { IfOk result (HasMoreCause (reblock_place self.old) (reblock_place self.new)
             (T.elements store.old) (T.elements store.new)) }
-        ensures job { KeepsJob (λ (j : Reblock) (s : T). Balanced (T.elements s) (T.extents s)
+        ensures job { KeepsJob (λ (j : Reblock) (s : T). InBalance T.HasElements s
             × HasReserveFor (T.room s) (next_of j)) (λ _ _. None) (λ _. true) reblock_place
             self.old self.new result }
         ensures store { UnitDone T.elements T.mark T.extents T.room T.free (λ _. None) true
@@ -103,8 +102,7 @@ impl<T: ElementStore + Extents> Job<T> for Reblock {
             store.old store.new result }
         ensures name { T.name store.new ≡ T.name store.old }
         ensures frame { T.frame store.new ≡ T.frame store.old }
-        ensures cause { HasStoreCause (content_of (T.elements store.old) (T.extents store.old))
-            (T.faults store.old) (T.faults store.new) result }
+        ensures cause { HasContentCause T.HasElements store.old store.new result }
     {
         match self.stage {
             Stage::Collect(Some(from)) => self.collect_more(store, &from),

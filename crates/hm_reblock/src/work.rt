@@ -1,20 +1,17 @@
 // What a reblock does of a store.
-ghost use Rattle.std.specs.Prelude.{◌≡◌, ◌≢◌, ◌⊎◌, ◌<◌, ◌≤◌, IfErr, IfOk, IfSome, IsSomeAnd, OnErr, OnOk};
-ghost use Rattle.std.specs.Prelude.{Some, length, slice_get, vec_len};
-ghost use Rattle.hm_types.specs.Faults.{HasStoreCause};
+ghost use Rattle.std.specs.Prelude.{◌≡◌, ◌≢◌, ◌⊎◌, ◌<◌, ◌≤◌, IfErr, IfOk, IfSome, IsSomeAnd, OnErr, OnOk, Some};
+ghost use Rattle.std.specs.Prelude.{length, slice_get, vec_len};
 ghost use Rattle.hm_types.specs.Offset.{zone_of};
-ghost use Rattle.hm_types.specs.Space.{IsPayloadZone, Spends, in_zone, nothing};
+ghost use Rattle.hm_types.specs.Space.{IsPayloadZone, in_zone, nothing};
 ghost use Rattle.hm_types.specs.declared.space.TheConstants.{PAYLOAD_RESERVE};
-ghost use Rattle.hm_key.specs.Balance.{Balanced, content_of};
 ghost use Rattle.hm_key.specs.Elements.{element_at, element_key};
 ghost use Rattle.hm_key.specs.Job.{ComesFurther, IfProgress};
 ghost use Rattle.hm_key.specs.Key.{key_of};
-ghost use Rattle.hm_key.specs.Stores.{Same};
+ghost use Rattle.hm_key.specs.Members.{HasContentCause, HasElementsCause, InBalance, IsSame, SpendsAtMost};
 ghost use Rattle.hm_reblock.specs.Choice.{IsInChoice, IsStill, IsZoneChosen, LiesThere, TellsLeft};
 ghost use Rattle.hm_reblock.specs.Moving.{AllAway, AreTwins, IsAway, MovesPayloads, Relocates};
 ghost use Rattle.hm_reblock.specs.Stages.{GoesOnWith, HasReserveFor, IsAtStart, IsLeft, LeadsOn, Notes};
-ghost use Rattle.hm_reblock.specs.Stages.{StandsOrComes};
-ghost use Rattle.hm_reblock.specs.Stages.{most_for, next_of, reblock_place};
+ghost use Rattle.hm_reblock.specs.Stages.{StandsOrComes, most_for, next_of, reblock_place};
 ghost use Rattle.hm_reblock.specs.declared.stage.Stage.TheVariants.{Collect, Move};
 ghost use Rattle.hm_types.specs.declared.fault.Fault.TheVariants.{NoMemory as no_memory};
 
@@ -41,11 +38,10 @@ impl Reblock {
         ensures choice { self.new.choice ≡ self.old.choice }
         ensures place { StandsOrComes (reblock_place self.old) (reblock_place self.new) }
         ensures err { OnErr result (self.new ≡ self.old) }
-        ensures keeps { Same T.elements T.mark T.extents T.room T.free store.old store.new }
+        ensures keeps { IsSame T.HasElements store.old store.new }
         ensures name { T.name store.new ≡ T.name store.old }
         ensures frame { T.frame store.new ≡ T.frame store.old }
-        ensures cause { HasStoreCause (T.elements store.old)
-            (T.faults store.old) (T.faults store.new) result }
+        ensures cause { HasElementsCause T.HasElements store.old store.new result }
     {
         let Some(left) = self.left(store, self.stage)? else {
             return Ok(None);
@@ -67,11 +63,10 @@ impl Reblock {
             (ComesFurther (reblock_place self.old) (reblock_place self.new)) (Unit {0})) }
         ensures choice { self.new.choice ≡ self.old.choice }
         ensures err { OnErr result (IsAtStart self.old self.new) }
-        ensures keeps { Same T.elements T.mark T.extents T.room T.free store.old store.new }
+        ensures keeps { IsSame T.HasElements store.old store.new }
         ensures name { T.name store.new ≡ T.name store.old }
         ensures frame { T.frame store.new ≡ T.frame store.old }
-        ensures cause { HasStoreCause (T.elements store.old)
-            (T.faults store.old) (T.faults store.new) result }
+        ensures cause { HasElementsCause T.HasElements store.old store.new result }
     {
         let before = self.known.len();
         let progress = self.try_collect(store, from);
@@ -93,11 +88,10 @@ impl Reblock {
             (ComesFurther (reblock_place self.old) (reblock_place self.new)) (Unit {0})) }
         ensures choice { self.new.choice ≡ self.old.choice }
         ensures err { OnErr result (Notes self.old self.new) }
-        ensures keeps { Same T.elements T.mark T.extents T.room T.free store.old store.new }
+        ensures keeps { IsSame T.HasElements store.old store.new }
         ensures name { T.name store.new ≡ T.name store.old }
         ensures frame { T.frame store.new ≡ T.frame store.old }
-        ensures cause { HasStoreCause (T.elements store.old)
-            (T.faults store.old) (T.faults store.new) result }
+        ensures cause { HasElementsCause T.HasElements store.old store.new result }
     {
         let next = self.choice.collect(store, from, &mut self.known)?;
         let Some(left) = self.left(store, Stage::Collect(next))? else {
@@ -117,11 +111,10 @@ impl Reblock {
         ensures further { IfOk result (IfProgress (self.old.walk < self.new.walk) (Unit {0})) }
         ensures choice { self.new.choice ≡ self.old.choice }
         ensures err { OnErr result (self.new ≡ self.old) }
-        ensures keeps { Same T.elements T.mark T.extents T.room T.free store.old store.new }
+        ensures keeps { IsSame T.HasElements store.old store.new }
         ensures name { T.name store.new ≡ T.name store.old }
         ensures frame { T.frame store.new ≡ T.frame store.old }
-        ensures cause { HasStoreCause (T.elements store.old)
-            (T.faults store.old) (T.faults store.new) result }
+        ensures cause { HasElementsCause T.HasElements store.old store.new result }
     {
         if self.left(store, Stage::Collect(None))?.is_none() {
             return Ok(Progress::Done);
@@ -138,14 +131,14 @@ impl Reblock {
         store: &mut T,
         at: usize,
     ) -> Result<Progress, Fault>
-        requires balanced { Balanced (T.elements store.old) (T.extents store.old) }
+        requires balanced { InBalance T.HasElements store.old }
         requires room { HasReserveFor (T.room store.old) (slice_get self.old.known.items at) }
         requires stage { self.old.stage ≡ Move at }
         ensures ok { IfOk result (λ progress. IfSome (T.elements store.new) (λ es.
             TellsLeft self.old.choice es progress)) }
         ensures moves { OnOk result
             (MovesPayloads T.elements T.mark T.extents store.old store.new) }
-        ensures space { Spends T.room T.free (most_for (slice_get self.old.known.items at))
+        ensures space { SpendsAtMost T.HasElements (most_for (slice_get self.old.known.items at))
             store.old store.new }
         ensures further { IfOk result (IfProgress
             (ComesFurther (reblock_place self.old) (reblock_place self.new)) (Unit {0})) }
@@ -153,8 +146,7 @@ impl Reblock {
         ensures err { OnErr result (self.new ≡ self.old) }
         ensures name { T.name store.new ≡ T.name store.old }
         ensures frame { T.frame store.new ≡ T.frame store.old }
-        ensures cause { HasStoreCause (content_of (T.elements store.old) (T.extents store.old))
-            (T.faults store.old) (T.faults store.new) result }
+        ensures cause { HasContentCause T.HasElements store.old store.new result }
     {
         let next = self.move_at(store, at)?;
         let Some(left) = self.left(store, Stage::Move(next))? else {
@@ -166,17 +158,16 @@ impl Reblock {
 
     // The same, and the place of what comes next.
     fn move_at<T: ElementStore + Extents>(&self, store: &mut T, at: usize) -> Result<usize, Fault>
-        requires balanced { Balanced (T.elements store.old) (T.extents store.old) }
+        requires balanced { InBalance T.HasElements store.old }
         requires room { HasReserveFor (T.room store.old) (slice_get self.now.known.items at) }
         ensures moves { OnOk result
             (MovesPayloads T.elements T.mark T.extents store.old store.new) }
-        ensures space { Spends T.room T.free (most_for (slice_get self.now.known.items at))
+        ensures space { SpendsAtMost T.HasElements (most_for (slice_get self.now.known.items at))
             store.old store.new }
         ensures further { IfOk result (λ next. (at < next) ⊎ (length self.now.known.items ≤ next)) }
         ensures name { T.name store.new ≡ T.name store.old }
         ensures frame { T.frame store.new ≡ T.frame store.old }
-        ensures cause { HasStoreCause (content_of (T.elements store.old) (T.extents store.old))
-            (T.faults store.old) (T.faults store.new) result }
+        ensures cause { HasContentCause T.HasElements store.old store.new result }
     {
         let Some(known) = self.known.get(at) else {
             return Ok(at);
@@ -195,7 +186,7 @@ impl Reblock {
         first: &Element,
         at: usize,
     ) -> Result<usize, Fault>
-        requires balanced { Balanced (T.elements store.old) (T.extents store.old) }
+        requires balanced { InBalance T.HasElements store.old }
         requires there { IfSome (T.elements store.old) (λ es.
             element_at (element_key first.now) es ≡ Some first.now) }
         requires chosen { IsInChoice self.now.choice first.now }
@@ -208,13 +199,12 @@ impl Reblock {
             (AllAway first.now.payload self.now.known.items at next)) }
         ensures rest { IfOk result (λ next. IfSome (slice_get self.now.known.items next)
             (λ known. known.payload ≢ first.now.payload)) }
-        ensures space { Spends T.room T.free (in_zone (zone_of first.now.payload) PAYLOAD_RESERVE)
+        ensures space { SpendsAtMost T.HasElements (in_zone (zone_of first.now.payload) PAYLOAD_RESERVE)
             store.old store.new }
         ensures further { IfOk result (λ next. at < next) }
         ensures name { T.name store.new ≡ T.name store.old }
         ensures frame { T.frame store.new ≡ T.frame store.old }
-        ensures cause { HasStoreCause (content_of (T.elements store.old) (T.extents store.old))
-            (T.faults store.old) (T.faults store.new) result }
+        ensures cause { HasContentCause T.HasElements store.old store.new result }
     {
         let to = move_first(self.choice.allocator(), store, first)?;
         let mut next = at + 1;
@@ -235,18 +225,17 @@ impl Reblock {
         known: &Element,
         to: HOff,
     ) -> Result<(), Fault>
-        requires balanced { Balanced (T.elements store.old) (T.extents store.old) }
+        requires balanced { InBalance T.HasElements store.old }
         requires twins { IfSome (T.extents store.old) (AreTwins 64 known.now.payload to) }
         requires lies { LiesThere self.now.choice known.now.payload }
         ensures ok { OnOk result (Relocates T.elements T.mark T.extents known.now.payload to
             store.old store.new) }
         ensures away { OnOk result (IfSome (T.elements store.new)
             (IsAway known.now.payload known.now)) }
-        ensures space { Spends T.room T.free nothing store.old store.new }
+        ensures space { SpendsAtMost T.HasElements nothing store.old store.new }
         ensures name { T.name store.new ≡ T.name store.old }
         ensures frame { T.frame store.new ≡ T.frame store.old }
-        ensures cause { HasStoreCause (content_of (T.elements store.old) (T.extents store.old))
-            (T.faults store.old) (T.faults store.new) result }
+        ensures cause { HasContentCause T.HasElements store.old store.new result }
     {
         match self.choice.still(store, known)? {
             Some(element) => move_sharer(store, &element, to),
@@ -287,11 +276,10 @@ impl Reblock {
             IsInChoice self.now.choice l.element)) }
         ensures leads { IfOk result (λ left. IfSome left (λ l.
             LeadsOn self.now.known.items l.element stage l.stage)) }
-        ensures keeps { Same T.elements T.mark T.extents T.room T.free store.old store.new }
+        ensures keeps { IsSame T.HasElements store.old store.new }
         ensures name { T.name store.new ≡ T.name store.old }
         ensures frame { T.frame store.new ≡ T.frame store.old }
-        ensures cause { HasStoreCause (T.elements store.old)
-            (T.faults store.old) (T.faults store.new) result }
+        ensures cause { HasElementsCause T.HasElements store.old store.new result }
     {
         match stage {
             Stage::Collect(from) => self.left_to_collect(store, from),
@@ -310,11 +298,10 @@ impl Reblock {
             IsInChoice self.now.choice l.element)) }
         ensures leads { IfOk result (λ left. IfSome left (λ l.
             LeadsOn self.now.known.items l.element (Collect from) l.stage)) }
-        ensures keeps { Same T.elements T.mark T.extents T.room T.free store.old store.new }
+        ensures keeps { IsSame T.HasElements store.old store.new }
         ensures name { T.name store.new ≡ T.name store.old }
         ensures frame { T.frame store.new ≡ T.frame store.old }
-        ensures cause { HasStoreCause (T.elements store.old)
-            (T.faults store.old) (T.faults store.new) result }
+        ensures cause { HasElementsCause T.HasElements store.old store.new result }
     {
         if let Some(element) = self.last_still(store)? {
             let stage = Stage::Collect(from);
@@ -338,11 +325,10 @@ impl Reblock {
         ensures ok { IfSome (T.elements store.old) (λ es.
             IfOk result (λ found. IfSome found (λ e. element_at (element_key e) es ≡ Some e))) }
         ensures chosen { IfOk result (λ found. IfSome found (IsInChoice self.now.choice)) }
-        ensures keeps { Same T.elements T.mark T.extents T.room T.free store.old store.new }
+        ensures keeps { IsSame T.HasElements store.old store.new }
         ensures name { T.name store.new ≡ T.name store.old }
         ensures frame { T.frame store.new ≡ T.frame store.old }
-        ensures cause { HasStoreCause (T.elements store.old)
-            (T.faults store.old) (T.faults store.new) result }
+        ensures cause { HasElementsCause T.HasElements store.old store.new result }
     {
         match self.known.last() {
             Some(known) => self.choice.still(store, known),
@@ -357,11 +343,10 @@ impl Reblock {
             IsInChoice self.now.choice l.element)) }
         ensures leads { IfOk result (λ left. IfSome left (λ l.
             LeadsOn self.now.known.items l.element (Move at) l.stage)) }
-        ensures keeps { Same T.elements T.mark T.extents T.room T.free store.old store.new }
+        ensures keeps { IsSame T.HasElements store.old store.new }
         ensures name { T.name store.new ≡ T.name store.old }
         ensures frame { T.frame store.new ≡ T.frame store.old }
-        ensures cause { HasStoreCause (T.elements store.old)
-            (T.faults store.old) (T.faults store.new) result }
+        ensures cause { HasElementsCause T.HasElements store.old store.new result }
     {
         let mut at = at;
         while let Some(known) = self.known.get(at) {

@@ -20,7 +20,7 @@ use Rattle.hm_key.specs.Versions.{HaveOwnKeys}
 use Rattle.hm_records.specs.Changes.{CountsNothing}
 use Rattle.hm_records.specs.Laws.{made_of}
 use Rattle.hm_records.specs.View.{AreFileBytes, IsFileByte, covered, hole, past, IsFirstAfter, IsObject}
-use Rattle.hm_records.specs.PlainView.{is_at_key, HasBytes, IsEarlierEnd, IsHeldAs, IsLess, IsObjectAt, IsLeastEnd, IsNewerVersion, IsNewestOf}
+use Rattle.hm_records.specs.PlainView.{is_at_key, HasBytes, IsEarlierEnd, IsHeldAs, IsLess, IsObjectAt, IsLeastEnd, IsNewerVersion, IsNewestVersionOf}
 use Rattle.hm_records.specs.PlainView.{IsNewestSince, IsNextEnd, IsUnmade}
 use Rattle.hm_records.proofs.CountsLemmas.{same_key, settled}
 use Rattle.hm_records.proofs.MadeLemmas.{object_made}
@@ -119,7 +119,7 @@ pub newest_none : (t : ℕ) (s : Subject) → IsNewestSince [] t s None None
 newest_none t s = record { newest = λ other has about made. has_none other has; since_is = refl }
 
 -- what counts is the newest version, where it is seen
-pub newest_counts : (es : List FullElement) (t : ℕ) (s : Subject) (e : FullElement) → IsNewestOf es t s e → IsSeen t e → Counts es t s e.bytes
+pub newest_counts : (es : List FullElement) (t : ℕ) (s : Subject) (e : FullElement) → IsNewestVersionOf es t s e → IsSeen t e → Counts es t s e.bytes
 newest_counts es t s e is seen = record {
   element = e;
   there = is.there;
@@ -130,7 +130,7 @@ newest_counts es t s e is seen = record {
 }
 
 -- where it is not, nothing does
-pub newest_unseen : (es : List FullElement) (t : ℕ) (s : Subject) (e : FullElement) → HaveOwnKeys es → IsNewestOf es t s e → (IsSeen t e → ⊥)
+pub newest_unseen : (es : List FullElement) (t : ℕ) (s : Subject) (e : FullElement) → HaveOwnKeys es → IsNewestVersionOf es t s e → (IsSeen t e → ⊥)
     → CountsNothing (Counts es t) s
 newest_unseen es t s e own is unseen bytes counts =
     let create : counts.element.key.create ≡ e.key.create =

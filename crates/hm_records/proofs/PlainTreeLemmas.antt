@@ -18,7 +18,7 @@ use Rattle.hm_records.specs.Changes.{CountsNothing, IsSettled, LacksName}
 use Rattle.hm_records.specs.Laws.{triple_of}
 use Rattle.hm_records.specs.View.{HasEntry, IsObject, IsTriple, IsView}
 use Rattle.hm_records.specs.PlainView.{HasName, HasNumber, HasTriple, HoldsObjects, HoldsTriples, IsAddedObject, IsAddedTriple, IsEarlierEntry}
-use Rattle.hm_records.specs.PlainView.{IsEntryAt, IsEntryOf, IsFirstKey, IsInodeOf, IsLeastKey, IsLess, IsNewObject, IsNewTriple, IsObjectAt}
+use Rattle.hm_records.specs.PlainView.{IsEntryAt, IsEntryOf, IsFirstKey, IsInodeOf, IsLeastKeyOf, IsLess, IsNewObject, IsNewTriple, IsObjectAt}
 use Rattle.hm_records.proofs.CountsLemmas.{settled}
 use Rattle.hm_records.proofs.MemberLemmas.{has_insert, has_none, insert_has, order_insert}
 use Rattle.hm_records.proofs.NameLemmas.{entry_one, same_obj, triple_one}
@@ -169,7 +169,7 @@ module _ (es : List FullElement) (t pfs : ℕ) (directory : Obj) (name : List �
       let about = about_entry pfs key directory c.element c.about in
       none c.element c.there about.0 (object, subst (λ (k : ℕ). HasEntry (Counts es t) pfs directory k name object) (sym about.1) has)
 
-  pub first_some : (key : ℕ) (entry : DirEntry) → HaveOwnKeys es → IsLeastKey (Counts es t) pfs directory name es key
+  pub first_some : (key : ℕ) (entry : DirEntry) → HaveOwnKeys es → IsLeastKeyOf (Counts es t) pfs directory name es key
       → HasEntry (Counts es t) pfs directory key entry.name entry.obj → IsTriple (Counts es t) pfs (triple_of directory name entry.obj)
   first_some key entry own least has =
       let same = entry_same (Counts es t) pfs directory key entry.name name entry.obj least.named.0 (settled es t own) has least.named.1 in
@@ -188,7 +188,7 @@ module _ (es : List FullElement) (t pfs : ℕ) (directory : Obj) (name : List �
       }
 
 -- a key that was found has its entry
-pub first_there : (C : Content) (pfs : ℕ) (directory : Obj) (name : List ℕ) (es : List FullElement) (key : ℕ) → IsLeastKey C pfs directory name es key
+pub first_there : (C : Content) (pfs : ℕ) (directory : Obj) (name : List ℕ) (es : List FullElement) (key : ℕ) → IsLeastKeyOf C pfs directory name es key
     → IsEntryAt C pfs directory key None → ⊥
 first_there C pfs directory name es key least none = none name least.named.0 least.named.1
 

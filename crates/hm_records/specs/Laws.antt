@@ -26,8 +26,8 @@ abbrev pub counts_of : AsOf → Content
 counts_of shown = Counts shown.elements shown.id
 
 -- no id of a list is above `t`
-abbrev pub IsUpTo : ℕ → List FullElement → Type 0
-IsUpTo t es = IsBelow (t + 1) es
+abbrev pub HasIdsUpTo : ℕ → List FullElement → Type 0
+HasIdsUpTo t es = IsBelow (t + 1) es
 
 -- a content has this view, and at most one payload counts in it for each subject
 pub record HasView (counts : Content) (pfs : ℕ) (tree : FileTree) : Type 0 where

@@ -37,7 +37,7 @@ IsLess n None = Unit {0}
 IsLess n (Some other) = n < other
 
 -- an element is the newest version of a subject that was made by `t`
-pub record IsNewestOf (es : List FullElement) (t : ℕ) (s : Subject) (e : FullElement) : Type 0 where
+pub record IsNewestVersionOf (es : List FullElement) (t : ℕ) (s : Subject) (e : FullElement) : Type 0 where
   pub there : Contains es e
   pub about : subject_of e.key ≡ s
   pub made : e.key.create ≤ t
@@ -49,7 +49,7 @@ IsUnmade es t s = (x : FullElement) → Contains es x → subject_of x.key ≡ s
 
 abbrev pub IsNewest : List FullElement → ℕ → Subject → Option FullElement → Type 0
 IsNewest es t s None = IsUnmade es t s
-IsNewest es t s (Some e) = IsNewestOf es t s e
+IsNewest es t s (Some e) = IsNewestVersionOf es t s e
 
 -- these bytes count for a subject, or nothing does
 abbrev pub IsCounted : List FullElement → ℕ → Subject → Option (List ℕ) → Type 0
@@ -150,7 +150,7 @@ pub record IsEarlierEntry (counts : Content) (pfs : ℕ) (directory : Obj) (name
   pub named : HasName counts pfs directory e.key.key name
 
 -- of the entries that some elements are about, this is the least key of one with the name
-pub record IsLeastKey (counts : Content) (pfs : ℕ) (directory : Obj) (name : List ℕ) (es : List FullElement) (key : ℕ) : Type 0 where
+pub record IsLeastKeyOf (counts : Content) (pfs : ℕ) (directory : Obj) (name : List ℕ) (es : List FullElement) (key : ℕ) : Type 0 where
   pub named : HasName counts pfs directory key name
   pub least : (e : FullElement) → Contains es e → subject_of e.key ≡ entry_subject pfs directory.0 e.key.key
       → HasName counts pfs directory e.key.key name → key ≤ e.key.key
@@ -159,12 +159,12 @@ abbrev pub IsFirstKey : Content → ℕ → Obj → List ℕ → List FullElemen
 IsFirstKey counts pfs directory name es None =
     (e : FullElement) → Contains es e → subject_of e.key ≡ entry_subject pfs directory.0 e.key.key
     → HasName counts pfs directory e.key.key name → ⊥
-IsFirstKey counts pfs directory name es (Some key) = IsLeastKey counts pfs directory name es key
+IsFirstKey counts pfs directory name es (Some key) = IsLeastKeyOf counts pfs directory name es key
 
 -- the object to which a name leads
-abbrev pub IsFirstEntry : Content → ℕ → Obj → List ℕ → Option Obj → Type 0
-IsFirstEntry counts pfs directory name None = LacksName counts pfs directory name
-IsFirstEntry counts pfs directory name (Some object) = IsTriple counts pfs (triple_of directory name object)
+abbrev pub NameLeadsTo : Content → ℕ → Obj → List ℕ → Option Obj → Type 0
+NameLeadsTo counts pfs directory name None = LacksName counts pfs directory name
+NameLeadsTo counts pfs directory name (Some object) = IsTriple counts pfs (triple_of directory name object)
 
 -- one of the triples is this directory's of this name
 abbrev pub HasTriple : List Triple → Obj → List ℕ → Type 0

@@ -5,7 +5,8 @@ ghost use Rattle.hm_types.specs.Told.{BothTell};
 ghost use Rattle.hm_disk.specs.Disk.{Synced};
 ghost use Rattle.hm_disk.specs.Moments.{SyncElapses};
 ghost use Rattle.hm_header.specs.Range.{IsHeader};
-ghost use Rattle.hm_recover.specs.Recovery.{HasRecoveryCause, IsOpenedHeader, IsRangeReady, IsRecovered, IsRecoveryRefused, KeepsRecovery};
+ghost use Rattle.hm_recover.specs.Recovery.{HasRecoveryCause, IsOpenedHeader, IsRangeReady};
+ghost use Rattle.hm_recover.specs.Recovery.{IsRecovered, IsRecoveryRefused, KeepsRecovery};
 ghost use Rattle.hm_recover.specs.Stop.{HasEndCause, IsFailed, IsOfHeader, IsStopped};
 
 use crate::fault::OpenFault;

@@ -14,7 +14,7 @@ use Rattle.hm_reblock.specs.Choice.{IsInChoice, IsZoneChosen, NoneChosen, SomeCh
 use Rattle.hm_reblock.specs.Stages.{StandsOrComes}
 use Rattle.hm_stored.specs.Heap.{Heap, pages_of}
 use Rattle.hm_stored.specs.Told.{elements_told}
-use Rattle.hm_relocate.specs.Unit.{ClearsPayloads, HasGotOn, IsToMove, LooksThrough, MovesPayload, Way}
+use Rattle.hm_relocate.specs.Unit.{ClearsPayloads, HasChosenNode, HasGotOn, IsToMove, LooksThrough, MovesPayload, Way}
 
 -- a place that is further than one that is further
 further_both : (a b c : Place) → ComesFurther a b → ComesFurther b c → ComesFurther a c
@@ -80,10 +80,14 @@ module _ (some all : List ℕ) (within : (block : ℕ) → Contains some block �
   some_more : (es : List Element) → SomeChosen some es → SomeChosen all es
   some_more es is = record { element = is.element; there = is.there; chosen = in_more is.element is.chosen }
 
-  pub to_move_more : (o : Option (List Element)) (zone : ℕ) → IsToMove some o zone → IsToMove all o zone
-  to_move_more o zone (inl tree) = inl tree
-  to_move_more None zone (inr payload) = inr tt
-  to_move_more (Some es) zone (inr payload) = inr (record {
+  chosen_node_more : (o : Option PageMap) → IfSome o (HasChosenNode some) → IfSome o (HasChosenNode all)
+  chosen_node_more None is = tt
+  chosen_node_more (Some map) is = (is.0, (is.1.0, within _ is.1.1))
+
+  pub to_move_more : (pages : Option PageMap) (o : Option (List Element)) (zone : ℕ) → IsToMove some pages o zone → IsToMove all pages o zone
+  to_move_more pages o zone (inl node) = inl (node.0, chosen_node_more pages node.1)
+  to_move_more pages None zone (inr payload) = inr tt
+  to_move_more pages (Some es) zone (inr payload) = inr (record {
     element = payload.element;
     there = payload.there;
     chosen = in_more payload.element payload.chosen;

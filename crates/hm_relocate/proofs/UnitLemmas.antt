@@ -13,6 +13,7 @@ use Rattle.hm_types.specs.declared.fault.SpaceFault.{SpaceFault}
 use Rattle.hm_types.specs.declared.fault.SpaceFault.TheVariants.{NoSpace, Fault as of_store}
 use Rattle.hm_fields.specs.Pages.{PageMap}
 use Rattle.hm_search.specs.declared.subtree.Subtree.{Subtree}
+use Rattle.hm_btree.specs.Calls.Choice.{FindsNode}
 use Rattle.hm_btree.specs.declared.space.TheConstants.{NODE_BYTES}
 use Rattle.hm_key.specs.Balance.{Balanced, IsBalanced, Works, content_of, full_elements}
 use Rattle.hm_key.specs.Charges.{Charges}
@@ -26,7 +27,8 @@ use Rattle.hm_reblock.specs.Stages.{HasReserveFor, StandsOrComes, most_for}
 use Rattle.hm_stored.specs.Heap.{Heap, extents_in, free_of, pages_of, room_of}
 use Rattle.hm_stored.specs.Moving.{RelocatesNode, StandsIn}
 use Rattle.hm_stored.specs.Told.{elements_told, mark_told}
-use Rattle.hm_relocate.specs.Unit.{HasGotOn, IsToMove, LacksForOne, LooksOn, LooksThrough, NamesOne, Rearranges, DoesPart, Tries, Way, content_told}
+use Rattle.hm_relocate.specs.Unit.{DoesPart, HasChosenNode, HasGotOn, IsToMove, LacksForOne, LooksOn, LooksThrough, NamesOne, Rearranges, Tries}
+use Rattle.hm_relocate.specs.Unit.{Way, content_told}
 use Rattle.hm_relocate.proofs.GotOnLemmas.{got_on_later, stands_both, to_move_more}
 
 -- ---- results
@@ -99,14 +101,6 @@ relocates_err choice faults faults' old new root root' fault part = record {
   no_space = part.no_space;
 }
 
-pub relocates_ok : {A B : Type 0} (choice : List ℕ) (faults faults' : ℕ) (old new : Heap) (root root' : ℕ) (x : A) (y : B)
-    → DoesPart choice faults faults' old new root root' (Ok x) → DoesPart choice faults faults' old new root root' (Ok y)
-relocates_ok choice faults faults' old new root root' x y part = record {
-  store = part.store;
-  cause = record { counted = record { never_falls = part.cause.counted.never_falls; caused = tt }; undamaged = part.cause.undamaged };
-  no_space = tt;
-}
-
 -- what is to move lies in a choice that has more
 pub relocates_more : {A : Type 0} (some all : List ℕ) (faults faults' : ℕ) (old new : Heap) (root root' : ℕ) (result : Result A SpaceFault)
     → ((block : ℕ) → Contains some block → Contains all block) → DoesPart some faults faults' old new root root' result
@@ -116,13 +110,13 @@ relocates_more some all faults faults' old new root root' result within part = r
   cause = part.cause;
   no_space = if_err result more part.no_space;
 } where
-  more : (fault : SpaceFault) → IfNoSpace (LacksForOne some (elements_told old root) (room_of old) (free_of old)) fault
-      → IfNoSpace (LacksForOne all (elements_told old root) (room_of old) (free_of old)) fault
+  more : (fault : SpaceFault) → IfNoSpace (LacksForOne some (pages_of old) (elements_told old root) (room_of old) (free_of old)) fault
+      → IfNoSpace (LacksForOne all (pages_of old) (elements_told old root) (room_of old) (free_of old)) fault
   more (NoSpace free needed) lacks = record {
     zones = lacks.zones;
     zone = lacks.zone;
     one = lacks.one;
-    moved = to_move_more some all within (elements_told old root) lacks.zone lacks.moved;
+    moved = to_move_more some all within (pages_of old) (elements_told old root) lacks.zone lacks.moved;
     lacks = lacks.lacks;
   }
   more (of_store fault) lacks = tt
@@ -165,13 +159,14 @@ module _ (old mid : Heap) (root root1 : ℕ) (looks : LooksThrough old mid root 
     charges = charges_later new did.charges;
   }
 
-  pub relocates_later : {A : Type 0} (choice : List ℕ) (faults faults1 faults' : ℕ) (new : Heap) (root' : ℕ) (result : Result A SpaceFault)
-      → faults ≤ faults1 → DoesPart choice faults1 faults' mid new root1 root' result → DoesPart choice faults faults' old new root root' result
-  relocates_later choice faults faults1 faults' new root' result grows part = record {
+  relocates_later : {A : Type 0} (choice : List ℕ) (faults faults1 faults' : ℕ) (new : Heap) (root' : ℕ) (result : Result A SpaceFault)
+      → pages_of mid ≡ pages_of old → faults ≤ faults1 → DoesPart choice faults1 faults' mid new root1 root' result
+      → DoesPart choice faults faults' old new root root' result
+  relocates_later choice faults faults1 faults' new root' result same grows part = record {
     store = on_ok result (rearranges_later new root') part.store;
     cause = cause_later (content_told mid root1) (content_told old root) faults faults1 faults' result content_same grows part.cause;
-    no_space = subst (λ (x : Option (List Element) × (ℕ → ℕ) × ℕ). IfErr result (IfNoSpace (LacksForOne choice x.0 x.1 x.2)))
-        (λ i. (looks.elements i, looks.room i, looks.free i)) part.no_space;
+    no_space = subst (λ (x : Option PageMap × Option (List Element) × (ℕ → ℕ) × ℕ). IfErr result (IfNoSpace (LacksForOne choice x.0 x.1 x.2 x.3)))
+        (λ i. (same i, looks.elements i, looks.room i, looks.free i)) part.no_space;
   }
 
   -- what a part tried after a look at the nodes
@@ -179,7 +174,7 @@ module _ (old mid : Heap) (root root1 : ℕ) (looks : LooksThrough old mid root 
       → StandsOrComes from.payloads place.payloads → place.nodes ≡ from.nodes → pages_of mid ≡ pages_of old → faults ≤ faults1
       → Tries place to choice faults1 faults' mid new root1 root' result → Tries from to choice faults faults' old new root root' result
   tries_later from place to choice faults faults1 faults' new root' result stands turned same grows tries = record {
-    part = relocates_later choice faults faults1 faults' new root' result grows tries.part;
+    part = relocates_later choice faults faults1 faults' new root' result same grows tries.part;
     moved = if_ok result (λ moved did is. got_on_later old mid root root1 looks from place to choice choice new root' stands turned same (did is)) tries.moved;
     none = if_ok result (λ moved looked is. (let after = looked is in (
       stands_both from.payloads place.payloads to.payloads stands after.0,
@@ -297,6 +292,39 @@ pub stands_still : (choice : List ℕ) (place : Subtree) (old new : Heap) → pa
 stands_still choice place old new same stands =
     subst (λ (o : Option PageMap). IfSome o (λ map. IsSome (map place.at))) (sym same) (if_some (pages_of old) (λ map found. found.0) stands)
 
+-- so what is to move is a node, where the look that found it left the nodes
+pub node_there : (choice : List ℕ) (old mid : Heap) (found : Option Subtree) (place : Subtree) → found ≡ Some place
+    → pages_of mid ≡ pages_of old → IfSome found (StandsIn choice mid) → IfSome (pages_of old) (HasChosenNode choice)
+node_there choice old mid found place is same stands =
+    if_some (pages_of old) (λ map lies. (place.at, lies))
+    (subst (λ (o : Option PageMap). IfSome o (λ map. FindsNode choice map (Some place.at))) same
+    (subst (λ (f : Option Subtree). IfSome f (StandsIn choice mid)) is stands))
+
+-- ---- how a part of a unit ended
+
+-- a call of the store failed in it, which told the same elements then
+pub part_fault : {T A : Type 0} (choice : List ℕ) (faults faults1 faults' : ℕ) (old mid new : Heap) (root root1 root' : ℕ) (fault : Fault)
+    → faults ≤ faults1 → elements_told mid root1 ≡ elements_told old root
+    → HasStoreCause {T = T} (elements_told mid root1) faults1 faults' (Err fault)
+    → DoesPart choice faults faults' old new root root' {A = A} (Err (of_store fault))
+part_fault choice faults faults1 faults' old mid new root root1 root' fault grows same cause = record {
+  store = tt;
+  cause = cause_fault (content_told old root) faults faults' fault (let rest = cause.counted.never_falls in omega (arith, grows, rest))
+      (caused_later faults faults1 faults' fault grows cause.counted.caused)
+      (content_elements (elements_told old root) (extents_in old) (IsUndamaged fault)
+      (subst (λ (o : Option (List Element)). IfSome o (λ _. IsUndamaged fault)) same cause.undamaged));
+  no_space = tt;
+}
+
+-- it looked at the store alone
+pub part_looked : {A : Type 0} (choice : List ℕ) (faults faults' : ℕ) (old new : Heap) (root root' : ℕ) (value : A)
+    → LooksThrough old new root root' → faults ≤ faults' → DoesPart choice faults faults' old new root root' (Ok value)
+part_looked choice faults faults' old new root root' value looks grows = record {
+  store = looks_rearranges old new root root' looks;
+  cause = cause_ok (content_told old root) faults faults' value grows;
+  no_space = tt;
+}
+
 -- ---- how an attempt to move something ended
 
 module _ (from to : Way) (choice : List ℕ) (faults faults' : ℕ) (old new : Heap) (root root' : ℕ) where
@@ -304,11 +332,7 @@ module _ (from to : Way) (choice : List ℕ) (faults faults' : ℕ) (old new : H
   pub tries_none : LooksOn from to old new root root' → faults ≤ faults'
       → Tries from to choice faults faults' old new root root' (Ok false)
   tries_none looks grows = record {
-    part = record {
-      store = looks_rearranges old new root root' looks.2;
-      cause = cause_ok (content_told old root) faults faults' false grows;
-      no_space = tt;
-    };
+    part = part_looked choice faults faults' old new root root' false looks.2 grows;
     moved = λ is. absurd (true≢false (sym is));
     none = λ is. looks;
   }
@@ -328,21 +352,14 @@ module _ (from to : Way) (choice : List ℕ) (faults faults' : ℕ) (old new : H
         → HasStoreCause {T = T} (elements_told mid root1) faults1 faults' (Err fault)
         → Tries from to choice faults faults' old new root root' (Err (of_store fault))
     tries_fault fault same cause = record {
-      part = record {
-        store = tt;
-        cause = cause_fault (content_told old root) faults faults' fault (let rest = cause.counted.never_falls in omega (arith, grows, rest))
-            (caused_later faults faults1 faults' fault grows cause.counted.caused)
-            (content_elements (elements_told old root) (extents_in old) (IsUndamaged fault)
-            (subst (λ (o : Option (List Element)). IfSome o (λ _. IsUndamaged fault)) same cause.undamaged));
-        no_space = tt;
-      };
+      part = part_fault choice faults faults1 faults' old mid new root root1 root' fault grows same cause;
       moved = tt;
       none = tt;
     }
 
     -- a zone got no room, after a look
     pub tries_room : (zones : Zones) (zone : ℕ) (fault : SpaceFault) → LooksThrough old mid root root1 → NamesOne zones zone
-        → IsToMove choice (elements_told old root) zone → HasAdmitCause {T = Unit {0}} (extents_in mid) faults1 faults' (Err fault)
+        → IsToMove choice (pages_of old) (elements_told old root) zone → HasAdmitCause {T = Unit {0}} (extents_in mid) faults1 faults' (Err fault)
         → IfNoSpace (LacksSpace zones 0 (room_of mid) (free_of mid)) fault → Tries from to choice faults faults' old new root root' (Err fault)
     tries_room zones zone (NoSpace free needed) looks one moved cause lacks = record {
       part = record {

@@ -7,6 +7,7 @@ use Rattle.hm_types.specs.Space.{IfNoSpace, LacksSpace, names_zone, reserve_of}
 use Rattle.hm_types.specs.declared.fault.SpaceFault.{SpaceFault}
 use Rattle.hm_types.specs.declared.zone.TheConstants.{TREE_ZONE}
 use Rattle.hm_types.specs.declared.zones.Zones.{Zones}
+use Rattle.hm_fields.specs.Pages.{PageMap}
 use Rattle.hm_key.specs.Balance.{IsBalanced, Works, content_of}
 use Rattle.hm_key.specs.Charges.{Charges}
 use Rattle.hm_key.specs.Extents.{Extent}
@@ -46,16 +47,22 @@ pub record NamesOne (zones : Zones) (zone : ℕ) : Type 0 where
   pub named : IsTrue (names_zone zones zone)
   pub alone : (other : ℕ) → IsTrue (names_zone zones other) → other ≡ zone
 
--- what is to be moved stands in this zone: a node, or as far as elements are told the payload of one that lies in the choice
-abbrev pub IsToMove : List ℕ → Option (List Element) → ℕ → Type 0
-IsToMove choice elements zone = (zone ≡ TREE_ZONE) ⊎ IfSome elements (SomeChosenIn zone choice)
+-- a node lies in the choice
+abbrev pub HasChosenNode : List ℕ → PageMap → Type 0
+HasChosenNode choice map = (at : ℕ) × FindsNode choice map (Some at)
+
+-- what is to be moved stands in this zone, and lies in the choice: as far as nodes are told a node, or as far as elements are told the
+-- payload of one
+abbrev pub IsToMove : List ℕ → Option PageMap → Option (List Element) → ℕ → Type 0
+IsToMove choice pages elements zone = ((zone ≡ TREE_ZONE) × IfSome pages (HasChosenNode choice)) ⊎ IfSome elements (SomeChosenIn zone choice)
 
 -- that zone alone asked for its reserve, and no big-block was free for it: both numbers are told
-pub record LacksForOne (choice : List ℕ) (elements : Option (List Element)) (room_of : ℕ → ℕ) (free_of told_free told_needed : ℕ) : Type 0 where
+pub record LacksForOne (choice : List ℕ) (pages : Option PageMap) (elements : Option (List Element)) (room_of : ℕ → ℕ)
+    (free_of told_free told_needed : ℕ) : Type 0 where
   pub zones : Zones
   pub zone : ℕ
   pub one : NamesOne zones zone
-  pub moved : IsToMove choice elements zone
+  pub moved : IsToMove choice pages elements zone
   pub lacks : LacksSpace zones 0 room_of free_of told_free told_needed
 
 -- What a part of a unit made of a store, over which the count of its faults went from one to another: where it ended well, things
@@ -63,7 +70,7 @@ pub record LacksForOne (choice : List ℕ) (elements : Option (List Element)) (r
 pub record DoesPart (choice : List ℕ) (faults faults' : ℕ) (old new : Heap) (root root' : ℕ) {A : Type 0} (result : Result A SpaceFault) : Type 0 where
   pub store : OnOk result (Rearranges old new root root')
   pub cause : HasAdmitCause (content_told old root) faults faults' result
-  pub no_space : IfErr result (IfNoSpace (LacksForOne choice (elements_told old root) (room_of old) (free_of old)))
+  pub no_space : IfErr result (IfNoSpace (LacksForOne choice (pages_of old) (elements_told old root) (room_of old) (free_of old)))
 
 -- as far as elements are told, one went or its payload stands elsewhere
 abbrev pub MovesPayload : Option (List Element) → Option (List Element) → Type 0

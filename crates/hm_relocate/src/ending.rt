@@ -1,34 +1,34 @@
 // The end of a reblock.
 ghost use Rattle.std.specs.Prelude.{◌≡◌, ℕ, [], IfErr, IfOk, IfSome, IsTrue, OnErr, OnOk};
 ghost use Rattle.std.specs.List.{Contains};
-ghost use Rattle.hm_types.specs.Faults.{IsCaused, IsUndamaged};
+ghost use Rattle.hm_types.specs.Faults.{HasStoreCause, IsCaused, IsUndamaged};
 ghost use Rattle.hm_stored.specs.Space.{heap};
 ghost use Rattle.hm_stored.specs.Told.{elements_told};
 ghost use Rattle.hm_stored.specs.Turn.{LooksSame};
 ghost use Rattle.hm_relocate.specs.Leaving.{HasNothingLive};
-ghost use Rattle.hm_relocate.specs.Unit.{DoesPart};
 
 use crate::relocation::Relocation;
 use hm_disk::Disk;
 use hm_reblock::Reblock;
 use hm_stored::Stored;
-use hm_types::{Counted, Fault, SpaceFault, is_pool};
+use hm_types::{Counted, Fault, is_pool};
 
 impl Relocation {
     // Empties the choice, into which nothing refers any more. `NoMemory` where bytes are live there.
-    pub(crate) fn end<D: Disk>(&mut self, stored: &mut Stored<D>) -> Result<(), SpaceFault>
-        ensures store { DoesPart self.old.payloads.choice (D.faults stored.old.space.disk)
-            (D.faults stored.new.space.disk) (heap stored.old.space) (heap stored.new.space)
-            stored.old.root stored.new.root result }
+    pub(crate) fn end<D: Disk>(&mut self, stored: &mut Stored<D>) -> Result<(), Fault>
+        ensures same { LooksSame (heap stored.old.space) (heap stored.new.space) }
+        ensures rest { (stored.new.root ≡ stored.old.root) × (stored.new.space.disk ≡ stored.old.space.disk) }
         ensures frame { ⟦<Stored<D> as Counted>⟧.frame stored.new
             ≡ ⟦<Stored<D> as Counted>⟧.frame stored.old }
         ensures unused { OnOk result ((block : ℕ) → Contains self.old.payloads.choice block →
             HasNothingLive (heap stored.new.space) block) }
         ensures empty { OnOk result (self.new.payloads.choice ≡ []) }
         ensures err { OnErr result (self.new.payloads.choice ≡ self.old.payloads.choice) }
+        ensures cause { HasStoreCause (elements_told (heap stored.old.space) stored.old.root)
+            (D.faults stored.old.space.disk) (D.faults stored.new.space.disk) result }
     {
         if !are_unused(stored, self.payloads.choice())? {
-            return Err(Fault::NoMemory.into());
+            return Err(Fault::NoMemory);
         }
         self.payloads = Reblock::new(Vec::new(self.alloc));
         self.nodes = None;

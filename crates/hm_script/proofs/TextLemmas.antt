@@ -6,7 +6,7 @@ use Rattle.hm_model.specs.Forms.{IsForm, IsInRange}
 use Rattle.hm_model.specs.Script.{is_remark, IsLaned, Gives, IsBad}
 use Rattle.hm_script.specs.Texts.{IsNoText}
 use Rattle.hm_script.specs.Lanes.{CutsLane}
-use Rattle.hm_script.specs.Commands.{IsCommandOf, IsNoCommand, Finds}
+use Rattle.hm_script.specs.Commands.{IsCommandOf, IsNoCommand, FindsCommand}
 use Rattle.hm_script.proofs.FormLemmas.{length_form, no_form-none, no_form-lane}
 
 -- a text that is no remark is bad, where it gives no command
@@ -72,9 +72,10 @@ one_command text words rest lane command are cut is = record {
 }
 
 -- what was found is nothing
-pub found_none : (words : List (List ℕ)) (found : Option Command) → found ≡ None → Finds words found → IsNoCommand words
+pub found_none : (words : List (List ℕ)) (found : Option Command) → found ≡ None → FindsCommand words found → IsNoCommand words
 found_none words found none finds = rw none at finds
 
 -- what was found is this command
-pub found_one : (words : List (List ℕ)) (found : Option Command) (command : Command) → found ≡ Some command → Finds words found → IsCommandOf words command
+pub found_one : (words : List (List ℕ)) (found : Option Command) (command : Command) → found ≡ Some command → FindsCommand words found
+    → IsCommandOf words command
 found_one words found command one finds = rw one at finds

@@ -14,5 +14,5 @@ abbrev pub IsNoCommand : List (List ℕ) → Type 0
 IsNoCommand words = (command : Command) → IsCommandOf words command → ⊥
 
 -- the words give this command, or there is none that they give
-abbrev pub Finds : List (List ℕ) → Option Command → Type 0
-Finds words found = MatchOption found (IsNoCommand words) (IsCommandOf words)
+abbrev pub FindsCommand : List (List ℕ) → Option Command → Type 0
+FindsCommand words found = MatchOption found (IsNoCommand words) (IsCommandOf words)

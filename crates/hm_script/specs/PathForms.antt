@@ -4,21 +4,21 @@ use Rattle.hm_script.specs.declared.path_form.PathForm.{PathForm}
 use Rattle.hm_script.specs.declared.path_form.PathForm.TheVariants.{Mkdir, Touch, Snapshot, Rm, Rmdir, Ls, Stat, Readlink, Prune, PruneAll, PfsStatus, PfsUpgrade, MirrorWrite}
 
 -- the word that begins the form
-abbrev pub name_of : PathForm → List ℕ
-name_of Mkdir = codes "mkdir"
-name_of Touch = codes "touch"
-name_of Snapshot = codes "snapshot"
-name_of Rm = codes "rm"
-name_of Rmdir = codes "rmdir"
-name_of Ls = codes "ls"
-name_of Stat = codes "stat"
-name_of Readlink = codes "readlink"
-name_of Prune = codes "prune"
-name_of PruneAll = codes "prune-everything"
-name_of PfsStatus = codes "pfs-status"
-name_of PfsUpgrade = codes "pfs-upgrade"
-name_of MirrorWrite = codes "mirror-write"
+abbrev pub form_name : PathForm → List ℕ
+form_name Mkdir = codes "mkdir"
+form_name Touch = codes "touch"
+form_name Snapshot = codes "snapshot"
+form_name Rm = codes "rm"
+form_name Rmdir = codes "rmdir"
+form_name Ls = codes "ls"
+form_name Stat = codes "stat"
+form_name Readlink = codes "readlink"
+form_name Prune = codes "prune"
+form_name PruneAll = codes "prune-everything"
+form_name PfsStatus = codes "pfs-status"
+form_name PfsUpgrade = codes "pfs-upgrade"
+form_name MirrorWrite = codes "mirror-write"
 
 -- the word begins no such form
 abbrev pub IsNoName : List ℕ → Type 0
-IsNoName word = (form : PathForm) → word ≡ name_of form → ⊥
+IsNoName word = (form : PathForm) → word ≡ form_name form → ⊥

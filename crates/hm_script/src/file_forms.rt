@@ -1,7 +1,7 @@
 // The forms of links and of file bytes, each by its words after the name.
 ghost use Rattle.std.specs.Prelude.{[], ◌∷◌, codes, IfOk};
 ghost use Rattle.hm_script.specs.Values.{ReadsBytes};
-ghost use Rattle.hm_script.specs.Commands.{Finds};
+ghost use Rattle.hm_script.specs.Commands.{FindsCommand};
 
 use crate::number::{read_hex_number, read_number, read_number_between};
 use crate::words::copy_of;
@@ -15,7 +15,7 @@ pub(crate) fn symlink(
     target: &[u8],
     path: &[u8],
 ) -> Result<Option<Command>, NoMemory>
-    ensures { IfOk result (Finds (codes "symlink" ∷ target.now ∷ path.now ∷ [])) }
+    ensures { IfOk result (FindsCommand (codes "symlink" ∷ target.now ∷ path.now ∷ [])) }
 {
     if target.is_empty() || target.len() > MOST_TARGET_BYTES {
         return Ok(None);
@@ -26,7 +26,7 @@ pub(crate) fn symlink(
 }
 
 pub(crate) fn ln(alloc: Global, old: &[u8], new: &[u8]) -> Result<Option<Command>, NoMemory>
-    ensures { IfOk result (Finds (codes "ln" ∷ old.now ∷ new.now ∷ [])) }
+    ensures { IfOk result (FindsCommand (codes "ln" ∷ old.now ∷ new.now ∷ [])) }
 {
     let old = copy_of(alloc, old)?;
     let new = copy_of(alloc, new)?;
@@ -34,7 +34,7 @@ pub(crate) fn ln(alloc: Global, old: &[u8], new: &[u8]) -> Result<Option<Command
 }
 
 pub(crate) fn mv(alloc: Global, old: &[u8], new: &[u8]) -> Result<Option<Command>, NoMemory>
-    ensures { IfOk result (Finds (codes "mv" ∷ old.now ∷ new.now ∷ [])) }
+    ensures { IfOk result (FindsCommand (codes "mv" ∷ old.now ∷ new.now ∷ [])) }
 {
     let old = copy_of(alloc, old)?;
     let new = copy_of(alloc, new)?;
@@ -47,7 +47,7 @@ pub(crate) fn write(
     offset: &[u8],
     digits: &[u8],
 ) -> Result<Option<Command>, NoMemory>
-    ensures { IfOk result (Finds (codes "write" ∷ path.now ∷ offset.now ∷ digits.now ∷ [])) }
+    ensures { IfOk result (FindsCommand (codes "write" ∷ path.now ∷ offset.now ∷ digits.now ∷ [])) }
 {
     let Some(offset) = read_number(offset) else {
         return Ok(None);
@@ -86,7 +86,7 @@ pub(crate) fn fill(
     byte: &[u8],
 ) -> Result<Option<Command>, NoMemory>
     ensures { IfOk result
-        (Finds (codes "fill" ∷ path.now ∷ offset.now ∷ count.now ∷ byte.now ∷ [])) }
+        (FindsCommand (codes "fill" ∷ path.now ∷ offset.now ∷ count.now ∷ byte.now ∷ [])) }
 {
     let Some(offset) = read_number(offset) else {
         return Ok(None);
@@ -106,7 +106,7 @@ pub(crate) fn fill(
 }
 
 pub(crate) fn truncate(alloc: Global, path: &[u8], size: &[u8]) -> Result<Option<Command>, NoMemory>
-    ensures { IfOk result (Finds (codes "truncate" ∷ path.now ∷ size.now ∷ [])) }
+    ensures { IfOk result (FindsCommand (codes "truncate" ∷ path.now ∷ size.now ∷ [])) }
 {
     let Some(size) = read_number(size) else {
         return Ok(None);
@@ -121,7 +121,7 @@ pub(crate) fn cat(
     offset: &[u8],
     count: &[u8],
 ) -> Result<Option<Command>, NoMemory>
-    ensures { IfOk result (Finds (codes "cat" ∷ path.now ∷ offset.now ∷ count.now ∷ [])) }
+    ensures { IfOk result (FindsCommand (codes "cat" ∷ path.now ∷ offset.now ∷ count.now ∷ [])) }
 {
     let Some(offset) = read_number(offset) else {
         return Ok(None);

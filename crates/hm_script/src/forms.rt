@@ -1,7 +1,7 @@
 // The forms of the commands, by the number of their words.
 ghost use Rattle.std.specs.Prelude.{[], ◌∷◌, IfOk};
 ghost use Rattle.hm_script.specs.Texts.{texts};
-ghost use Rattle.hm_script.specs.Commands.{Finds};
+ghost use Rattle.hm_script.specs.Commands.{FindsCommand};
 
 use crate::file_forms::{cat, fill, ln, mv, symlink, truncate, write};
 use crate::path_form::PathForm;
@@ -15,7 +15,7 @@ use std::alloc::Global;
 
 /// The command that the words of a line give, without its lane.
 pub(crate) fn command_of(alloc: Global, words: &[&[u8]]) -> Result<Option<Command>, NoMemory>
-    ensures { IfOk result (Finds (texts words.now)) }
+    ensures { IfOk result (FindsCommand (texts words.now)) }
 {
     match words {
         [name] => Ok(of_name(name)),
@@ -30,7 +30,7 @@ pub(crate) fn command_of(alloc: Global, words: &[&[u8]]) -> Result<Option<Comman
 }
 
 fn of_name(name: &[u8]) -> Option<Command>
-    ensures { Finds (name.now ∷ []) result }
+    ensures { FindsCommand (name.now ∷ []) result }
 {
     if is(name, b"sync") {
         Some(Command::Sync)
@@ -48,7 +48,7 @@ fn of_name(name: &[u8]) -> Option<Command>
 }
 
 fn of_one(alloc: Global, name: &[u8], value: &[u8]) -> Result<Option<Command>, NoMemory>
-    ensures { IfOk result (Finds (name.now ∷ value.now ∷ [])) }
+    ensures { IfOk result (FindsCommand (name.now ∷ value.now ∷ [])) }
 {
     if is(name, b"reblock") {
         return Ok(reblock(value));
@@ -66,7 +66,7 @@ fn of_two(
     first: &[u8],
     second: &[u8],
 ) -> Result<Option<Command>, NoMemory>
-    ensures { IfOk result (Finds (name.now ∷ first.now ∷ second.now ∷ [])) }
+    ensures { IfOk result (FindsCommand (name.now ∷ first.now ∷ second.now ∷ [])) }
 {
     if is(name, b"symlink") {
         symlink(alloc, first, second)
@@ -96,7 +96,7 @@ fn of_three(
     second: &[u8],
     third: &[u8],
 ) -> Result<Option<Command>, NoMemory>
-    ensures { IfOk result (Finds (name.now ∷ first.now ∷ second.now ∷ third.now ∷ [])) }
+    ensures { IfOk result (FindsCommand (name.now ∷ first.now ∷ second.now ∷ third.now ∷ [])) }
 {
     if is(name, b"write") {
         write(alloc, first, second, third)
@@ -118,7 +118,7 @@ fn of_four(
     fourth: &[u8],
 ) -> Result<Option<Command>, NoMemory>
     ensures { IfOk result
-        (Finds (name.now ∷ first.now ∷ second.now ∷ third.now ∷ fourth.now ∷ [])) }
+        (FindsCommand (name.now ∷ first.now ∷ second.now ∷ third.now ∷ fourth.now ∷ [])) }
 {
     if is(name, b"fill") {
         fill(alloc, first, second, third, fourth)

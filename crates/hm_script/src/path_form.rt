@@ -1,7 +1,7 @@
 // The forms of one path.
 ghost use Rattle.std.specs.Prelude.{◌≡◌, [], ◌∷◌, MatchOption};
 ghost use Rattle.hm_script.specs.Commands.{IsCommandOf};
-ghost use Rattle.hm_script.specs.PathForms.{name_of, IsNoName};
+ghost use Rattle.hm_script.specs.PathForms.{form_name, IsNoName};
 
 use crate::words::is;
 use hm_model::Command;
@@ -28,7 +28,7 @@ pub(crate) enum PathForm {
 impl PathForm {
     /// The form with this name.
     pub(crate) fn of(name: &[u8]) -> Option<PathForm>
-        ensures { MatchOption result (IsNoName name.now) (λ form. name.now ≡ name_of form) }
+        ensures { MatchOption result (IsNoName name.now) (λ form. name.now ≡ form_name form) }
     {
         if is(name, b"mkdir") {
             Some(PathForm::Mkdir)
@@ -63,7 +63,7 @@ impl PathForm {
 
     /// The command of this form with this path.
     pub(crate) fn command(self, path: Text) -> Command
-        ensures { IsCommandOf (name_of self ∷ path ∷ []) result }
+        ensures { IsCommandOf (form_name self ∷ path ∷ []) result }
     {
         match self {
             PathForm::Mkdir => Command::Mkdir { path },

@@ -1,6 +1,6 @@
 // The forms of housekeeping and mirroring, each by its words after the name.
 ghost use Rattle.std.specs.Prelude.{[], ◌∷◌, codes, IfOk};
-ghost use Rattle.hm_script.specs.Commands.{Finds};
+ghost use Rattle.hm_script.specs.Commands.{FindsCommand};
 
 use crate::number::{read_hex_number, read_id_word, read_number_between};
 use crate::words::copy_of;
@@ -15,7 +15,7 @@ pub(crate) const WHOLE_FILL: u8 = 100;
 const SHARED_DIGITS: usize = 16;
 
 pub(crate) fn reblock(fill: &[u8]) -> Option<Command>
-    ensures { Finds (codes "reblock" ∷ fill.now ∷ []) result }
+    ensures { FindsCommand (codes "reblock" ∷ fill.now ∷ []) result }
 {
     let fill = read_number_between(fill, 1, u64::from(WHOLE_FILL))?;
     Some(Command::Reblock { fill: fill as u8 })
@@ -26,7 +26,7 @@ pub(crate) fn pfs_master(
     path: &[u8],
     shared: &[u8],
 ) -> Result<Option<Command>, NoMemory>
-    ensures { IfOk result (Finds (codes "pfs-master" ∷ path.now ∷ shared.now ∷ [])) }
+    ensures { IfOk result (FindsCommand (codes "pfs-master" ∷ path.now ∷ shared.now ∷ [])) }
 {
     let Some(shared) = read_hex_number(shared, SHARED_DIGITS) else {
         return Ok(None);
@@ -40,7 +40,7 @@ pub(crate) fn pfs_slave(
     path: &[u8],
     shared: &[u8],
 ) -> Result<Option<Command>, NoMemory>
-    ensures { IfOk result (Finds (codes "pfs-slave" ∷ path.now ∷ shared.now ∷ [])) }
+    ensures { IfOk result (FindsCommand (codes "pfs-slave" ∷ path.now ∷ shared.now ∷ [])) }
 {
     let Some(shared) = read_hex_number(shared, SHARED_DIGITS) else {
         return Ok(None);
@@ -54,7 +54,7 @@ pub(crate) fn mirror_read(
     path: &[u8],
     begin: &[u8],
 ) -> Result<Option<Command>, NoMemory>
-    ensures { IfOk result (Finds (codes "mirror-read" ∷ path.now ∷ begin.now ∷ [])) }
+    ensures { IfOk result (FindsCommand (codes "mirror-read" ∷ path.now ∷ begin.now ∷ [])) }
 {
     let Some(begin) = read_id_word(begin) else {
         return Ok(None);
@@ -68,7 +68,7 @@ pub(crate) fn mirror_copy(
     master: &[u8],
     slave: &[u8],
 ) -> Result<Option<Command>, NoMemory>
-    ensures { IfOk result (Finds (codes "mirror-copy" ∷ master.now ∷ slave.now ∷ [])) }
+    ensures { IfOk result (FindsCommand (codes "mirror-copy" ∷ master.now ∷ slave.now ∷ [])) }
 {
     Ok(Some(Command::MirrorCopy {
         master: copy_of(alloc, master)?,
@@ -84,7 +84,7 @@ pub(crate) fn limited_mirror_copy(
     limit: &[u8],
 ) -> Result<Option<Command>, NoMemory>
     ensures { IfOk result
-        (Finds (codes "mirror-copy" ∷ master.now ∷ slave.now ∷ limit.now ∷ [])) }
+        (FindsCommand (codes "mirror-copy" ∷ master.now ∷ slave.now ∷ limit.now ∷ [])) }
 {
     let Some(limit) = read_number_between(limit, 1, u64::from(u32::MAX)) else {
         return Ok(None);

@@ -11,7 +11,7 @@ use Rattle.hm_node.specs.Node.{HasLevel, IsNode}
 use Rattle.hm_node.specs.declared.inner.Inner.{Inner}
 use Rattle.hm_node.specs.declared.node.Node.{Node}
 use Rattle.hm_node.specs.declared.node.Node.TheVariants.{Inner as inner_node}
-use Rattle.hm_search.specs.Descent.{StandsHere, levels_under, levels_below, LeadsTo, Descends, IsFaultBelow}
+use Rattle.hm_search.specs.Descent.{StandsHere, levels_under, levels_below, LeadsToChild, Descends, IsFaultBelow}
 use Rattle.hm_search.specs.Descent.{PassesHere, GoesTo, Goes, IsUnmetBelow, HasSearchCause}
 use Rattle.hm_search.specs.Place.{Fits, FitsLevel, MeetsBy, TellsDamage, TellsUnmet}
 use Rattle.hm_search.specs.Tree.{node_at, children_of, root_place, IsTree, IsStoredTree}
@@ -54,7 +54,7 @@ child_stored map height s inner i child stored is at = by_height height (subst (
 
 -- the places on the way
 pub leads : (map : PageMap) (s : Subtree) (inner : Inner) (i : ℕ) (child : Subtree) → StandsHere map s (inner_node inner)
-    → slice_get (children_of inner) i ≡ Some child → LeadsTo map s child
+    → slice_get (children_of inner) i ≡ Some child → LeadsToChild map s child
 leads map s inner i child here at = (inner, here, i, at)
 
 -- a fault at the place itself, and one further down
@@ -63,7 +63,7 @@ fault_here map s (Media before after) tells = tt
 fault_here map s (Damaged at kind) tells = (0, s, refl, tells)
 fault_here map s NoMemory tells = tt
 
-pub fault_below : (map : PageMap) (s child : Subtree) (fault : Fault) → LeadsTo map s child → IsFaultBelow map child fault → IsFaultBelow map s fault
+pub fault_below : (map : PageMap) (s child : Subtree) (fault : Fault) → LeadsToChild map s child → IsFaultBelow map child fault → IsFaultBelow map s fault
 fault_below map s child (Media before after) to below = tt
 fault_below map s child (Damaged at kind) to (steps, end, descends, tells) = (suc steps, end, (child, to, descends), tells)
 fault_below map s child NoMemory to below = tt

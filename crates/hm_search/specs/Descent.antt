@@ -32,15 +32,15 @@ pub record StandsHere (map : PageMap) (subtree : Subtree) (node : Node) : Type 0
   pub spelled : IsSome (map subtree.at) → Spells (page_in (map subtree.at)) node
 
 -- a read may give an inner node at the first place, and the second is the place of one of its children
-abbrev pub LeadsTo : PageMap → Subtree → Subtree → Type 0
-LeadsTo map from to =
+abbrev pub LeadsToChild : PageMap → Subtree → Subtree → Type 0
+LeadsToChild map from to =
     (inner : Inner) × StandsHere map from (inner_node inner)
     × (i : ℕ) × (slice_get (children_of inner) i ≡ Some to)
 
 -- so many steps down lead from the first place to the second
 abbrev pub Descends : PageMap → ℕ → Subtree → Subtree → Type 0
 Descends map zero from to = from ≡ to
-Descends map (suc steps) from to = (next : Subtree) × LeadsTo map from next × Descends map steps next to
+Descends map (suc steps) from to = (next : Subtree) × LeadsToChild map from next × Descends map steps next to
 
 -- damage is told of a place only to which a descent comes, and only where no page is there, or it breaks a rule
 -- there: then with the lowest number of such a rule

@@ -2,6 +2,7 @@
 ghost use Rattle.std.specs.Prelude.{◌≡◌, ◌≤◌, ◌<◌, ◌+◌, ℕ, Some, IfSome, IfOk, IfErr, slice_get};
 ghost use Rattle.hm_types.specs.Faults.{HasFaultCause};
 ghost use Rattle.hm_types.specs.Elements.{Key};
+ghost use Rattle.hm_types.specs.declared.limits.TheConstants.{PAGE_BYTES};
 ghost use Rattle.hm_key.specs.Key.{key_of};
 ghost use Rattle.hm_node.specs.Base.{base_in};
 ghost use Rattle.hm_node.specs.Head.{head_in};
@@ -22,7 +23,7 @@ use crate::steps::Steps;
 use crate::subtree::{Parent, Subtree};
 use hm_fields::Page;
 use hm_key::{Base, Element};
-use hm_node::{Head, LEAF, NodePages, is_before, place, read_base, read_child, read_element};
+use hm_node::{Head, LEAF, NodePages, order_at, place, read_base, read_child, read_element};
 use hm_types::{Counted, Fault};
 use std::sync::ledger::Ledger;
 
@@ -242,7 +243,7 @@ pub(crate) fn rank(page: &Page, count: usize, at: &Base, also_at: bool) -> usize
     let mut high = count;
     while low < high {
         let middle = low + (high - low) / 2;
-        if is_by(&read_base(page, place(middle)), at, also_at) {
+        if is_by(page, place(middle), at, also_at) {
             low = middle + 1;
         } else {
             high = middle;
@@ -251,13 +252,15 @@ pub(crate) fn rank(page: &Page, count: usize, at: &Base, also_at: bool) -> usize
     low
 }
 
-// Whether a base stands before the key of `at`, or also whether it stands at it.
-fn is_by(base: &Base, at: &Base, also_at: bool) -> bool
-    ensures { result ≡ is_by also_at (key_of at.now) base.now }
+// Whether the base from `place` on stands before the key of `at`, or also whether it stands at it.
+fn is_by(page: &Page, place: usize, at: &Base, also_at: bool) -> bool
+    requires { place + 40 ≤ PAGE_BYTES }
+    ensures { result ≡ is_by also_at (key_of at.now) (base_in page.now place) }
 {
+    let order = order_at(page, place, at);
     if also_at {
-        !is_before(at, base)
+        order.is_le()
     } else {
-        is_before(base, at)
+        order.is_lt()
     }
 }

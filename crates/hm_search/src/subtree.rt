@@ -2,6 +2,7 @@
 ghost use Rattle.std.specs.Prelude.{◌≡◌, ◌≤◌, ◌<◌, ◌+◌, ◌-◌, ◌↔◌, ℕ, All, IfSome, IfNone, IsTrue, slice_get, drop, Some};
 ghost use Rattle.std.specs.List.Sorted.{IsStrictlySortedBy};
 ghost use Rattle.arrayvec.specs.ArrayVec.{array_vec_len};
+ghost use Rattle.hm_types.specs.declared.limits.TheConstants.{PAGE_BYTES};
 ghost use Rattle.hm_key.specs.Key.{key_of};
 ghost use Rattle.hm_key.specs.Elements.{element_key, element_cmp};
 ghost use Rattle.hm_node.specs.Base.{base_in};
@@ -19,7 +20,7 @@ ghost use Rattle.hm_search.specs.Tree.{root_place, children_of, next_left};
 use crate::place_rule::PlaceRule;
 use hm_fields::Page;
 use hm_key::Base;
-use hm_node::{Head, Inner, LEAF, place, read_base};
+use hm_node::{Head, Inner, LEAF, order_at, place};
 use hm_types::{BAD_BOUNDS, BAD_COUNT, BAD_LEVEL, BAD_MIRROR, HOff, LEAST_PLACES};
 
 /// What a node's parent says of it.
@@ -200,10 +201,10 @@ impl Subtree {
         if count == 0 {
             return true;
         }
-        if !self.holds(&read_base(page, place(0))) {
+        if !self.holds(page, place(0)) {
             return false;
         }
-        self.holds(&read_base(page, place(count - 1)))
+        self.holds(page, place(count - 1))
     }
 
     // Whether the bases of so many elements in order lie inside the boundaries: the first and the
@@ -217,11 +218,12 @@ impl Subtree {
         self.holds_ends(page, count)
     }
 
-    // Whether a base lies inside the boundaries.
-    fn holds(&self, base: &Base) -> bool
-        ensures { IsTrue result ↔ IsInside self.now.left self.now.right (key_of base.now) }
+    // Whether the base from `at` on lies inside the boundaries.
+    fn holds(&self, page: &Page, at: usize) -> bool
+        requires { at + 40 ≤ PAGE_BYTES }
+        ensures { IsTrue result ↔ IsInside self.now.left self.now.right (key_of (base_in page.now at)) }
     {
-        !base.order(&self.left).is_lt() && base.order(&self.right).is_lt()
+        !order_at(page, at, &self.left).is_lt() && order_at(page, at, &self.right).is_lt()
     }
 
     // Whether the first and the last boundary of so many children are these ones.
@@ -230,8 +232,7 @@ impl Subtree {
         ensures { IsTrue result ↔ ((key_of (base_in page.now (place_at 0)) ≡ key_of self.now.left)
             × (key_of (base_in page.now (place_at count)) ≡ key_of self.now.right)) }
     {
-        is_at(&read_base(page, place(0)), &self.left)
-            && is_at(&read_base(page, place(count)), &self.right)
+        is_at(page, place(0), &self.left) && is_at(page, place(count), &self.right)
     }
 
     // Whether its `mirror` is the one that the parent has for it.
@@ -257,9 +258,10 @@ fn right_of(inner: &Inner, i: usize) -> Base
     }
 }
 
-// Whether two bases have one key.
-fn is_at(base: &Base, other: &Base) -> bool
-    ensures { IsTrue result ↔ (key_of base.now ≡ key_of other.now) }
+// Whether the base from `at` on has the key of another one.
+fn is_at(page: &Page, at: usize, other: &Base) -> bool
+    requires { at + 40 ≤ PAGE_BYTES }
+    ensures { IsTrue result ↔ (key_of (base_in page.now at) ≡ key_of other.now) }
 {
-    base.order(other).is_eq()
+    order_at(page, at, other).is_eq()
 }

@@ -12,7 +12,7 @@ use Rattle.hm_key.specs.Counts.{Counts, Subject, entry_subject, subject_of}
 use Rattle.hm_key.specs.Versions.{HaveOwnKeys}
 use Rattle.hm_records.specs.Laws.{triple_of}
 use Rattle.hm_records.specs.Payload.{IsPayload, SpellsEntry}
-use Rattle.hm_records.specs.PlainView.{HasTriple, HoldsTriples, IsCounted, IsEarlierEntry, IsEntryAt, IsFirstEntry, IsFirstKey, IsLess, IsNewTriple, tree_of}
+use Rattle.hm_records.specs.PlainView.{HasTriple, HoldsTriples, IsCounted, IsEarlierEntry, IsEntryAt, NameLeadsTo, IsFirstKey, IsLess, IsNewTriple, tree_of}
 use Rattle.hm_records.specs.View.{HasEntry, IsViewOf}
 use Rattle.hm_records.specs.declared.entry.DirEntry.{DirEntry}
 use Rattle.hm_records.proofs.CountsLemmas.{settled}
@@ -80,7 +80,7 @@ module _ (es : List FullElement) (t pfs : ℕ) (own : HaveOwnKeys es) (payloads 
         ])
 
     abbrev FirstEntry : Type 0
-    FirstEntry = (object : Option Obj) × IsFirstEntry (Counts es t) pfs directory name object
+    FirstEntry = (object : Option Obj) × NameLeadsTo (Counts es t) pfs directory name object
 
     first_at : (key : ℕ) → IsFirstKey (Counts es t) pfs directory name es (Some key) → (entry : Option DirEntry)
         → IsEntryAt (Counts es t) pfs directory key entry → FirstEntry
@@ -115,7 +115,7 @@ module _ (es : List FullElement) (t pfs : ℕ) (own : HaveOwnKeys es) (payloads 
 
   module _ (e : FullElement) (directory : Obj) (triples : List Triple) (about : subject_of e.key ≡ entry_subject pfs directory.0 e.key.key) where
     new_with : (entry : DirEntry) → HasEntry (Counts es t) pfs directory e.key.key entry.name entry.obj → (HasTriple triples directory entry.name → ⊥)
-        → (object : Option Obj) → IsFirstEntry (Counts es t) pfs directory entry.name object → NewTriple e triples
+        → (object : Option Obj) → NameLeadsTo (Counts es t) pfs directory entry.name object → NewTriple e triples
     new_with entry has new None lacks = (None, triple_lacks (Counts es t) pfs e directory entry triples has lacks)
     new_with entry has new (Some object) is =
         (Some (triple_of directory entry.name object), triple_new (Counts es t) pfs e directory object entry triples about has new is)

@@ -1,10 +1,9 @@
 // A call, as the next one of a history.
 ghost use Rattle.std.specs.Prelude.{◌≡◌, ◌+◌, ◌<◌, IfOk, OnOk, option_map};
 ghost use Rattle.hm_types.specs.declared.limits.TheConstants.{GREATEST_ID};
-ghost use Rattle.hm_key.specs.Balance.{Balanced};
 ghost use Rattle.hm_key.specs.Charges.{Charges};
-ghost use Rattle.hm_key.specs.Stores.{Keeps};
-ghost use Rattle.hm_cursor.specs.Told.{HasReadingCause};
+ghost use Rattle.hm_key.specs.Members.{InBalance, KeepsFrame, KeepsTold};
+ghost use Rattle.hm_cursor.specs.Told.{ReadsWithCause};
 ghost use Rattle.hm_model.specs.Forms.{IsInRange};
 ghost use Rattle.hm_calls.specs.Answered.{IsAnswerable, IsFormOf, reply_in};
 ghost use Rattle.hm_calls.specs.Commands.{LowersRoomFor, reserves_for};
@@ -39,7 +38,7 @@ pub fn answer_next<T: ElementStore + Extents>(
 ) -> Result<Answered, Fault>
     requires command { IsAnswerable command.now × IsInRange command.now }
     requires left { last.0 < GREATEST_ID }
-    requires balanced { Balanced (T.elements store.old) (T.extents store.old) }
+    requires balanced { InBalance T.HasElements store.old }
     requires known { AreKnown (T.elements store.old) (T.extents store.old) (last.0 + 1) }
     ensures step { IfOk result (IsStep T.elements T.extents T.free
         (record { command = command.now; last = last.0; beside = beside }) store.old store.new) }
@@ -50,14 +49,12 @@ pub fn answer_next<T: ElementStore + Extents>(
     ensures form { IfOk result (IsFormOf command.now) }
     ensures known { OnOk result (AreKnown (T.elements store.new) (T.extents store.new)
         (last.0 + 2)) }
-    ensures keeps { Keeps T.elements T.extents store.old store.new result }
+    ensures keeps { KeepsTold T.HasElements store.old store.new result }
     ensures room { LowersRoomFor command.now T.room store.old store.new }
     ensures charges { OnOk result (Charges T.room T.free (reserves_for command.now)
         store.old store.new) }
-    ensures borrowed { (T.name store.new ≡ T.name store.old)
-        × (T.frame store.new ≡ T.frame store.old) }
-    ensures cause { HasReadingCause (T.elements store.old) (T.extents store.old)
-        (T.faults store.old) (T.faults store.new) result }
+    ensures borrowed { KeepsFrame T.Counted store.old store.new }
+    ensures cause { ReadsWithCause T.HasElements store.old store.new result }
 {
     answer_call(alloc, store, &Fnv, command, Id(last.0 + 1), beside)
 }

@@ -24,8 +24,8 @@ pub(crate) enum Step {
     Remove,
 }
 
-// Whether all elements are older than an id.
-fn is_older(store: &MemStore, id: u64) -> bool
+/// Whether all elements are older than an id.
+pub(crate) fn is_older(store: &MemStore, id: u64) -> bool
     ensures { IsTrue result → (pfs obj first : ℕ) → AreOlderIn (⟦<MemStore as HasElements>⟧.elements store.now)
         (⟦<MemStore as HasRoom>⟧.extents store.now) pfs obj id first }
 {
@@ -40,8 +40,8 @@ fn are_older(elements: &[Element], id: u64) -> bool
         .all(|e| e.base.create < id && e.base.delete <= id)
 }
 
-// Whether a store has room for some blocks, at most 960.
-fn has_room(store: &MemStore, blocks: u64) -> bool
+/// Whether a store has room for some blocks, at most 960.
+pub(crate) fn has_room(store: &MemStore, blocks: u64) -> bool
     requires { blocks ≤ 960 }
     ensures { IsTrue result → HasBlockRoom (⟦<MemStore as HasRoom>⟧.room store.now) blocks }
 {

@@ -6,6 +6,8 @@
 #![tactic(auto)]
 
 #[cfg(test)]
+mod append_tests;
+#[cfg(test)]
 mod cursor_tests;
 #[cfg(test)]
 mod cut_tests;

@@ -9,7 +9,7 @@ use Rattle.hm_types.specs.declared.zones.Zones.{Zones}
 use Rattle.hm_disk.specs.Crash.{Told}
 use Rattle.hm_freemap.specs.Stand.{free_by, room_in}
 use Rattle.hm_pages.specs.Store.{Store, frame_of as pages_frame}
-use Rattle.hm_stored.specs.Calls.{AnswersRoom, IsNotRenewed, Refuses, Renews, SameBooks}
+use Rattle.hm_stored.specs.Calls.{AnswersRoom, IsNotRenewed, RefusesRoom, Renews, SameBooks}
 use Rattle.hm_stored.specs.Heap.{Heap, Rest, frame_of, free_of, heap_of, maps_of, room_of}
 use Rattle.hm_stored.specs.Held.{IsKept}
 use Rattle.hm_stored.specs.declared.books.Books.{Books}
@@ -54,7 +54,7 @@ module _ (old new : Store) (disk : Option Told) (books books' : Books) (zones : 
         kept_admit h h' zones most books.most based refl log renews.gave whole still none renews.admitted kept,
       )
 
-  pub refused : (free needed : ℕ) → Refuses zones most old new books books' free needed
+  pub refused : (free needed : ℕ) → RefusesRoom zones most old new books books' free needed
       → AnswersRoom zones most h h' (Err (NoSpace free needed)) × ∥ IsKept h' ∥₁
   unfolding heap_of
   refused free need refuses =

@@ -15,8 +15,9 @@ use Rattle.hm_freemap.specs.Extents.{is_extent, reference}
 use Rattle.hm_freemap.specs.Stand.{EntryChanged, IsBelow, entry_of, home_of}
 use Rattle.hm_freemap.specs.declared.entry.Entry.{Entry}
 use Rattle.hm_freemap.proofs.CountLemmas.{bit, count-cons}
+use Rattle.hm_image.specs.Referred.{references_of}
 use Rattle.hm_stored.specs.Basis.{nodes}
-use Rattle.hm_stored.specs.Held.{expected, uses_of}
+use Rattle.hm_stored.specs.Held.{expected}
 use Rattle.hm_stored.proofs.UseLemmas.{is_one}
 
 -- A call leaves pages outside of the freemap.
@@ -68,7 +69,7 @@ module _ (at x l : ℕ) where
 
 -- the tests that a map has a page say all that matters of nodes
 pub expected_same : (old new : PageMap) (xs : List Extent) (x l : ℕ) → is_some (new x) ≡ is_some (old x) → expected new xs x l ≡ expected old xs x l
-expected_same old new xs x l same = ap (λ (b : Bool). cond (nat_eq (rounded l) 4096 && b) 1 0 + uses_of (rounded l) (extent_at x xs)) same
+expected_same old new xs x l same = ap (λ (b : Bool). cond (nat_eq (rounded l) 4096 && b) 1 0 + references_of l (extent_at x xs)) same
 
 -- A big-block keeps its zone, and is filled as far at least.
 pub record Grows (old new : PageMap) (block : ℕ) : Type 0 where

@@ -4,7 +4,7 @@ use Rattle.std.proofs.lemmas.List.Elements.{All-contains, Contains-get_or}
 use Rattle.hm_types.specs.Elements.{FullElement}
 use Rattle.hm_key.specs.Element.{pfs_of}
 use Rattle.hm_stored.specs.Decide.{dec_all, from_holds, to_holds}
-use Rattle.hm_stored.specs.Known.{AreDrawn, AreKnown, IsKnown, IsOfSlave, dec_known, dec_of_slave, is_known}
+use Rattle.hm_stored.specs.Known.{WereDrawn, AreKnown, IsKnown, IsOfSlave, dec_known, dec_of_slave, is_known}
 
 -- each pseudo file system is a slave, or its elements were drawn
 pub known_each : (last : ℕ) (es : List FullElement) → IsTrue (is_known last es) → AreKnown last es
@@ -14,7 +14,7 @@ known_each last es known pfs = by (dec_of_slave es pfs)
     all : (x : FullElement) → Contains es x → IsKnown last es x
     all x there = All-contains (IsKnown last es) es x (from_holds (dec_all (dec_known last es) es) known) there
 
-    by : Dec (IsOfSlave es pfs) → IsOfSlave es pfs ⊎ AreDrawn last es pfs
+    by : Dec (IsOfSlave es pfs) → IsOfSlave es pfs ⊎ WereDrawn last es pfs
     by (yes slave) = inl slave
     by (no not) = inr (λ x there is. ⊎_elim (λ slave. absurd (not (subst (IsOfSlave es) is slave))) (λ drawn. drawn) (all x there))
 

@@ -29,3 +29,6 @@ header_distinct header is j k first second same =
       by_order : j ≢ k → (j < k) ⊎ (k ≤ j) → j ≡ k
       by_order apart (inl less) = absurd (away header.bigblocks header.append is.four is.append j k less second (sym same))
       by_order apart (inr more) = absurd (away header.bigblocks header.append is.four is.append k j (omega (arith, more, apart)) first same)
+
+-- what a header says of its append big-blocks
+pub ruleset header_rules = (header_below, header_distinct, header_pool)

@@ -14,9 +14,10 @@ use Rattle.hm_key.specs.Extents.{AreExtents, Extent, extent_at}
 use Rattle.hm_freemap.specs.Change.{given}
 use Rattle.hm_freemap.specs.Extents.{Changes, IsApart, IsReferred, Takes, is_extent, reference, unreferred, without_one}
 use Rattle.hm_freemap.proofs.ListLemmas.{all_left}
+use Rattle.hm_image.specs.Referred.{references_of}
 use Rattle.hm_stored.specs.Basis.{Basis, nodes, states_of}
 use Rattle.hm_stored.specs.Heap.{Heap, bytes_of, maps_of, places_in}
-use Rattle.hm_stored.specs.Held.{HeldBy, expected, uses_of, with_refs}
+use Rattle.hm_stored.specs.Held.{HeldBy, expected, with_refs}
 use Rattle.hm_stored.specs.Log.{filled}
 use Rattle.hm_stored.proofs.BookLemmas.{eq_either, expected_more, node_uses, nodes_kept}
 use Rattle.hm_stored.proofs.FixedLemmas.{fixed_change, fixed_take}
@@ -77,7 +78,7 @@ module _ (h h' : Heap) (b : Basis) (refs : List Reference) (at : ℕ) (now : Pag
         empty : nodes h.pages.current at ≡ None
         empty =
             let zero = times_none at 4096 refs (omega arith) dead in
-            none_where (nodes h.pages.current at) (uses_of (rounded 4096) (extent_at at (places_in h))) (sym (held.counted at 4096) ∙ zero)
+            none_where (nodes h.pages.current at) (references_of 4096 (extent_at at (places_in h))) (sym (held.counted at 4096) ∙ zero)
 
         counted : (x l : ℕ) → times x l (r ∷ refs) ≡ expected (nodes h'.pages.current) (places_in h') x l
         counted x l =
@@ -102,7 +103,7 @@ module _ (h h' : Heap) (b : Basis) (refs : List Reference) (at : ℕ) (now : Pag
         some : 1 ≤ times at 4096 refs
         some =
             let count = held.counted at 4096 in
-            let node = some_where (nodes h.pages.current at) (uses_of (rounded 4096) (extent_at at (places_in h)))
+            let node = some_where (nodes h.pages.current at) (references_of 4096 (extent_at at (places_in h)))
             (ap (λ (o : Option (List ℕ)). is_some o) there) in
             omega (arith, count, node)
 
@@ -127,7 +128,7 @@ node_free h b refs at now held takes =
     let dead : All (IsApart (reference at 4096)) refs = all_left (IsApart (reference at 4096)) refs _
     (takes.dead (with_refs refs (states_of b)) held.stand) in
     let zero = times_none at 4096 refs (omega arith) dead in
-    none_where (nodes h.pages.current at) (uses_of (rounded 4096) (extent_at at (places_in h))) (sym (held.counted at 4096) ∙ zero) where
+    none_where (nodes h.pages.current at) (references_of 4096 (extent_at at (places_in h))) (sym (held.counted at 4096) ∙ zero) where
       none_where : (o : Option (List ℕ)) (n : ℕ) → node_uses o 4096 + n ≡ 0 → o ≡ None
       none_where None n none = refl
       none_where (Some page) n none = absurd (omega (arith, none))
@@ -138,7 +139,7 @@ pub node_referred : (h : Heap) (b : Basis) (refs : List Reference) (at : ℕ) (p
 node_referred h b refs at page held there =
     referred_where (reference at 4096) refs
     (let count = held.counted at 4096 in
-    let node = some_where (nodes h.pages.current at) (uses_of (rounded 4096) (extent_at at (places_in h))) (ap (λ (o : Option (List ℕ)). is_some o) there) in
+    let node = some_where (nodes h.pages.current at) (references_of 4096 (extent_at at (places_in h))) (ap (λ (o : Option (List ℕ)). is_some o) there) in
     omega (arith, count, node)) where
       some_where : (o : Option (List ℕ)) (n : ℕ) → is_some o ≡ true → 1 ≤ node_uses o 4096 + n
       some_where None n is = absurd (true≢false (sym is))

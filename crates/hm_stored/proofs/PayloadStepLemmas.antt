@@ -20,9 +20,10 @@ use Rattle.hm_freemap.specs.Extents.{Changes, IsApart, IsReferred, IsShareable, 
 use Rattle.hm_freemap.specs.Extents.{without_one, with_current}
 use Rattle.hm_freemap.specs.Stand.{StandBy}
 use Rattle.hm_freemap.proofs.ListLemmas.{all_left, apart_left}
+use Rattle.hm_image.specs.Referred.{references_of}
 use Rattle.hm_stored.specs.Basis.{Basis, nodes, states_of}
 use Rattle.hm_stored.specs.Heap.{Heap, bytes_of, maps_of, places_in}
-use Rattle.hm_stored.specs.Held.{HeldBy, expected, uses_of, with_refs}
+use Rattle.hm_stored.specs.Held.{HeldBy, expected, with_refs}
 use Rattle.hm_stored.specs.Log.{filled, one_of}
 use Rattle.hm_stored.proofs.ApartLemmas.{IsBeside, apart_times, each_at, extents_with, filled_kept}
 use Rattle.hm_stored.proofs.BookLemmas.{Agrees, IsLong, SamePages, all_agree, expected_same, node_uses, nodes_kept, there_counts}
@@ -51,8 +52,8 @@ no_node pages at zone = by_test (nat_eq (zone_of at) TREE_ZONE) refl where
   by_test true is = absurd (omega (arith, eqb-true (zone_of at) TREE_ZONE is, zone.0))
   by_test false is = refl
 
-uses_there : (size : ℕ) (x : Extent) (o : Option Extent) → o ≡ Some x → x.len ≡ size → uses_of size o ≡ x.refs
-uses_there size x o is long = rw (is, long, eq-eqb size size refl) refl
+uses_there : (len : ℕ) (x : Extent) (o : Option Extent) → o ≡ Some x → x.len ≡ rounded len → references_of len o ≡ x.refs
+uses_there len x o is long = rw (is, long, eq-eqb (rounded len) (rounded len) refl) refl
 
 module _ (h h' : Heap) (b : Basis) (refs : List Reference) (at len : ℕ) (now : PageMap) (few : h.bigblocks ≤ MOST_BIGBLOCKS) (same : StaysBeside h h')
     (held : HeldBy h b refs) (some : 1 ≤ len) (put : h'.pages.current ≡ now) (pages : SamePages h.pages.current now) where
@@ -88,7 +89,7 @@ module _ (h h' : Heap) (b : Basis) (refs : List Reference) (at len : ℕ) (now :
     counts : times at len refs ≡ x.refs
     counts =
         let y = found_filled (bytes_of h.disk) at x xs found in
-        let uses = uses_there (rounded len) y.0 (extent_at at xs) y.1 (y.2 ∙ long) in
+        let uses = uses_there len y.0 (extent_at at xs) y.1 (y.2 ∙ long) in
         let none : node_uses (nodes h.pages.current at) len ≡ 0 =
         rw (no_node h.pages.current at (subst (λ (n : ℕ). IsPayloadZone (zone_of n)) is_extent_there.1 is_extent_there.0.zone))
         (by_size (nat_eq (rounded len) 4096)) in
@@ -140,18 +141,18 @@ module _ (h h' : Heap) (b : Basis) (refs : List Reference) (at len : ℕ) (now :
         (subst (λ (bs : List ℕ). AreExtents (map (filled bs) (places_in h'))) (sym bytes)
         (subst (λ (ys : List Extent). AreExtents (map (filled (bytes_of h.disk)) ys)) (sym places)
         (subst AreExtents (given_filled (bytes_of h.disk) at xs) (extents_given at filled_xs held.extents)))) where
-          same_uses : (size : ℕ) (o : Option Extent) → uses_of size (option_map (filled (bytes_of h.disk)) o) ≡ uses_of size o
-          same_uses size None = refl
-          same_uses size (Some y) = refl
+          same_uses : (l : ℕ) (o : Option Extent) → references_of l (option_map (filled (bytes_of h.disk)) o) ≡ references_of l o
+          same_uses l None = refl
+          same_uses l (Some y) = refl
 
-          uses_back : (x' l : ℕ) → is_one x' l at len + uses_of (rounded l) (extent_at x' (given_back_at at xs)) ≡ uses_of (rounded l) (extent_at x' xs)
+          uses_back : (x' l : ℕ) → is_one x' l at len + references_of l (extent_at x' (given_back_at at xs)) ≡ references_of l (extent_at x' xs)
           uses_back x' l =
               let back = uses_given at len x' l x filled_xs held.extents.apart each found is_extent_there.0.shared.0 long in
-              let old : uses_of (rounded l) (extent_at x' filled_xs) ≡ uses_of (rounded l) (extent_at x' xs) =
-              ap (uses_of (rounded l)) (at_filled (bytes_of h.disk) x' xs) ∙ same_uses (rounded l) (extent_at x' xs) in
-              let new : uses_of (rounded l) (extent_at x' (given_back_at at filled_xs)) ≡ uses_of (rounded l) (extent_at x' (given_back_at at xs)) =
-              ap (λ (ys : List Extent). uses_of (rounded l) (extent_at x' ys)) (given_filled (bytes_of h.disk) at xs)
-              ∙ (ap (uses_of (rounded l)) (at_filled (bytes_of h.disk) x' (given_back_at at xs)) ∙ same_uses (rounded l)
+              let old : references_of l (extent_at x' filled_xs) ≡ references_of l (extent_at x' xs) =
+              ap (references_of l) (at_filled (bytes_of h.disk) x' xs) ∙ same_uses l (extent_at x' xs) in
+              let new : references_of l (extent_at x' (given_back_at at filled_xs)) ≡ references_of l (extent_at x' (given_back_at at xs)) =
+              ap (λ (ys : List Extent). references_of l (extent_at x' ys)) (given_filled (bytes_of h.disk) at xs)
+              ∙ (ap (references_of l) (at_filled (bytes_of h.disk) x' (given_back_at at xs)) ∙ same_uses l
               (extent_at x' (given_back_at at xs))) in
               omega (arith, back, old, new)
 
@@ -191,7 +192,7 @@ module _ (h h' : Heap) (b : Basis) (refs : List Reference) (zone at len : ℕ) (
   beside_one : (x : Extent) → IsExtent x → extent_at x.at was_filled ≡ Some x → IsApart new_one (reference x.at x.len)
   beside_one x is found =
       let y = found_filled (bytes_of h.disk) x.at x old_xs found in
-      let uses = uses_there (rounded x.len) y.0 (extent_at x.at old_xs) y.1 (y.2 ∙ sym is.whole) in
+      let uses = uses_there x.len y.0 (extent_at x.at old_xs) y.1 (y.2 ∙ sym is.whole) in
       let count = held.counted x.at x.len in
       apart_times new_one x.at x.len refs (omega (arith, count, uses, y.3, is.shared)) dead
 

@@ -21,7 +21,7 @@ use Rattle.hm_key.specs.Balance.{IsBalanced}
 use Rattle.hm_key.specs.Extents.{Extent, extent_at}
 use Rattle.hm_search.specs.Tree.{elements_of}
 use Rattle.hm_stored.specs.Basis.{nodes, refers}
-use Rattle.hm_stored.specs.Held.{expected, uses_of}
+use Rattle.hm_stored.specs.Held.{expected}
 use Rattle.hm_stored.specs.Log.{filled}
 use Rattle.hm_stored.proofs.PlaceLemmas.{at_filled}
 use Rattle.hm_stored.proofs.ReferLemmas.{referred_where, times}
@@ -33,7 +33,7 @@ one_test true false same = absurd (omega (arith, same))
 one_test false true same = absurd (omega (arith, same))
 one_test false false same = refl
 
-same_uses : (bytes : List ℕ) (len : ℕ) (o : Option Extent) → references_of len (option_map (filled bytes) o) ≡ uses_of (rounded len) o
+same_uses : (bytes : List ℕ) (len : ℕ) (o : Option Extent) → references_of len (option_map (filled bytes) o) ≡ references_of len o
 same_uses bytes len None = refl
 same_uses bytes len (Some x) = refl
 
@@ -43,7 +43,7 @@ tree_counted pages root bytes xs at len tree balanced =
     let mine = nodes pages in
     let all = references_counted at len mine root tree.sound in
     let uses = elements_counted at len (map (filled bytes) xs) (elements_of mine root) balanced in
-    let found : references_of len (extent_at at (map (filled bytes) xs)) ≡ uses_of (rounded len) (extent_at at xs) =
+    let found : references_of len (extent_at at (map (filled bytes) xs)) ≡ references_of len (extent_at at xs) =
     ap (references_of len) (at_filled bytes at xs) ∙ same_uses bytes len (extent_at at xs) in
     let once : is_node mine root at ≡ is_some (mine at) =
     one_test (is_node mine root at) (is_some (mine at))

@@ -9,8 +9,8 @@ use Rattle.hm_freemap.specs.Extents.{is_extent, reference}
 use Rattle.hm_key.specs.Extents.{AreApart, Extent, IsExtent, extent_at, given_back_at, shared_at, with_extent}
 use Rattle.hm_key.proofs.BalanceLemmas.{all_elsewhere}
 use Rattle.hm_freemap.proofs.CountLemmas.{bit}
+use Rattle.hm_image.specs.Referred.{references_of}
 use Rattle.hm_stored.specs.Log.{one_of}
-use Rattle.hm_stored.specs.Held.{uses_of}
 use Rattle.hm_stored.proofs.PlaceLemmas.{at_shared, at_shared-others, at_with-new, at_with-others}
 
 -- no extent stands at an offset at which none of them does
@@ -83,24 +83,24 @@ module _ (at len x l : ℕ) where
   here_one there = ap (λ (b : Bool). bit (b && nat_eq (rounded len) (rounded l))) (eq-eqb at x there)
 
   more_uses : (e : Extent) (old new : Option Extent) → old ≡ Some e → new ≡ Some (record e { refs = e.refs + 1 }) → e.len ≡ rounded len
-      → uses_of (rounded l) new ≡ bit (nat_eq (rounded len) (rounded l)) + uses_of (rounded l) old
+      → references_of l new ≡ bit (nat_eq (rounded len) (rounded l)) + references_of l old
   more_uses e old new was is size = rw (was, is, size) (by_test (nat_eq (rounded len) (rounded l))) where
     by_test : (b : Bool) → cond b (e.refs + 1) 0 ≡ bit b + cond b e.refs 0
     by_test true = omega arith
     by_test false = omega arith
 
   pub uses_shared : (e : Extent) (xs : List Extent) → extent_at at xs ≡ Some e → e.len ≡ rounded len
-      → uses_of (rounded l) (extent_at x (shared_at at xs)) ≡ is_one x l at len + uses_of (rounded l) (extent_at x xs)
+      → references_of l (extent_at x (shared_at at xs)) ≡ is_one x l at len + references_of l (extent_at x xs)
   uses_shared e xs found size =
-      by_place (uses_of (rounded l) (extent_at x (shared_at at xs)) ≡ is_one x l at len + uses_of (rounded l) (extent_at x xs))
+      by_place (references_of l (extent_at x (shared_at at xs)) ≡ is_one x l at len + references_of l (extent_at x xs))
       (λ there. rw (here_one there) (more_uses e (extent_at x xs) (extent_at x (shared_at at xs)) (subst (λ (n : ℕ). extent_at n xs ≡ Some e) there found)
       (subst (λ (n : ℕ). extent_at n (shared_at at xs) ≡ Some (record e { refs = e.refs + 1 })) there (at_shared at e xs found)) size))
       (λ apart. rw (elsewhere_none apart, at_shared-others x at xs apart) (omega arith))
 
   pub uses_placed : (xs : List Extent) → extent_at at xs ≡ None
-      → uses_of (rounded l) (extent_at x (with_extent (one_of at len) xs)) ≡ is_one x l at len + uses_of (rounded l) (extent_at x xs)
+      → references_of l (extent_at x (with_extent (one_of at len) xs)) ≡ is_one x l at len + references_of l (extent_at x xs)
   uses_placed xs none =
-      by_place (uses_of (rounded l) (extent_at x (with_extent (one_of at len) xs)) ≡ is_one x l at len + uses_of (rounded l) (extent_at x xs))
+      by_place (references_of l (extent_at x (with_extent (one_of at len) xs)) ≡ is_one x l at len + references_of l (extent_at x xs))
       (λ there.
       let was : extent_at x xs ≡ None = subst (λ (n : ℕ). extent_at n xs ≡ None) there none in
       let is : extent_at x (with_extent (one_of at len) xs) ≡ Some (one_of at len) =
@@ -113,7 +113,7 @@ module _ (at len x l : ℕ) where
 
   less_uses : (e : Extent) (old new : Option Extent) → old ≡ Some e → (nat_eq e.refs 1 ≡ true → new ≡ None)
       → (nat_eq e.refs 1 ≡ false → new ≡ Some (record e { refs = e.refs - 1 })) → 1 ≤ e.refs → e.len ≡ rounded len
-      → bit (nat_eq (rounded len) (rounded l)) + uses_of (rounded l) new ≡ uses_of (rounded l) old
+      → bit (nat_eq (rounded len) (rounded l)) + references_of l new ≡ references_of l old
   less_uses e old new was gone less some size = by_last (nat_eq e.refs 1) refl where
     by_test : (b : Bool) → e.refs ≡ 1 → bit b + 0 ≡ cond b e.refs 0
     by_test true one = omega (arith, one)
@@ -123,14 +123,14 @@ module _ (at len x l : ℕ) where
     by_more true = omega (arith, some)
     by_more false = omega arith
 
-    by_last : (last : Bool) → nat_eq e.refs 1 ≡ last → bit (nat_eq (rounded len) (rounded l)) + uses_of (rounded l) new ≡ uses_of (rounded l) old
+    by_last : (last : Bool) → nat_eq e.refs 1 ≡ last → bit (nat_eq (rounded len) (rounded l)) + references_of l new ≡ references_of l old
     by_last true is = rw (was, gone is, size) (by_test (nat_eq (rounded len) (rounded l)) (eqb-true e.refs 1 is))
     by_last false is = rw (was, less is, size) (by_more (nat_eq (rounded len) (rounded l)))
 
   pub uses_given : (e : Extent) (xs : List Extent) → AreApart 0 xs → AllByRecursion IsExtent xs → extent_at at xs ≡ Some e → 1 ≤ e.refs → e.len ≡ rounded len
-      → is_one x l at len + uses_of (rounded l) (extent_at x (given_back_at at xs)) ≡ uses_of (rounded l) (extent_at x xs)
+      → is_one x l at len + references_of l (extent_at x (given_back_at at xs)) ≡ references_of l (extent_at x xs)
   uses_given e xs apart each found some size =
-      by_place (is_one x l at len + uses_of (rounded l) (extent_at x (given_back_at at xs)) ≡ uses_of (rounded l) (extent_at x xs))
+      by_place (is_one x l at len + references_of l (extent_at x (given_back_at at xs)) ≡ references_of l (extent_at x xs))
       (λ there. rw (here_one there) (less_uses e (extent_at x xs) (extent_at x (given_back_at at xs)) (subst (λ (n : ℕ). extent_at n xs ≡ Some e) there found)
       (λ last. subst (λ (n : ℕ). extent_at n (given_back_at at xs) ≡ None) there (at_given-last 0 at e xs apart each found last))
       (λ several. subst (λ (n : ℕ). extent_at n (given_back_at at xs) ≡ Some (record e { refs = e.refs - 1 })) there (at_given-more at e xs found several))

@@ -106,13 +106,13 @@ pub record Renews (zones : Zones) (held : ℕ) (old new : Store) (before after :
   pub whole : after.whole ≡ before.whole
 
 -- too few big-blocks are free, and nothing changed
-pub record Refuses (zones : Zones) (held : ℕ) (old new : Store) (before after : Books) (free needed : ℕ) : Type 0 where
+pub record RefusesRoom (zones : Zones) (held : ℕ) (old new : Store) (before after : Books) (free needed : ℕ) : Type 0 where
   pub refused : IsRefused before.bigblocks zones held before.append (maps_in old) new.current free needed
   pub books : after ≡ before
 
 -- zones were not given room: for want of space, or the call failed half-way
 abbrev pub IsNotRenewed : Zones → ℕ → Store → Store → Books → Books → SpaceFault → Type 0
-IsNotRenewed zones held old new before after (NoSpace free needed) = Refuses zones held old new before after free needed
+IsNotRenewed zones held old new before after (NoSpace free needed) = RefusesRoom zones held old new before after free needed
 IsNotRenewed zones held old new before after (of_store fault) = after.whole ≡ false
 
 -- what a call on the room of zones makes of a space

@@ -14,21 +14,17 @@ use Rattle.hm_freemap.specs.Extents.{is_extent, reference}
 use Rattle.hm_freemap.specs.Places.{IsPageOf}
 use Rattle.hm_header.specs.Range.{IsRoot}
 use Rattle.hm_undo.specs.Entry.{IsUndoPageOf}
+use Rattle.hm_image.specs.Referred.{references_of}
 use Rattle.hm_pages.specs.Store.{Store}
 use Rattle.hm_freemap.specs.Stand.{IsBelow, StandBy, entry_of, home_of}
 use Rattle.hm_stored.specs.Basis.{AreFixed, Basis, nodes, states_of}
 use Rattle.hm_stored.specs.Heap.{Heap, basis_with, bytes_of, does_hold, does_tell, maps_of, places_in}
 use Rattle.hm_stored.specs.Log.{filled}
 
--- how many references a list of extents has to one of so many bytes at an offset
-abbrev pub uses_of : ℕ → Option Extent → ℕ
-uses_of size None = 0
-uses_of size (Some x) = if nat_eq x.len size then x.refs else 0
-
 -- how many references there are to so many bytes at an offset: a node's page is referred to once
 abbrev pub expected : PageMap → List Extent → ℕ → ℕ → ℕ
 expected pages xs at len =
-    (if nat_eq (rounded len) PAGE_BYTES && is_some (pages at) then 1 else 0) + uses_of (rounded len) (extent_at at xs)
+    (if nat_eq (rounded len) PAGE_BYTES && is_some (pages at) then 1 else 0) + references_of len (extent_at at xs)
 
 -- what three states refer to, with another list for the current one
 abbrev pub with_refs : List Reference → References → References

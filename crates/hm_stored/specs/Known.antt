@@ -121,12 +121,12 @@ dec_slave bytes =
     yes (record { value = r; is = is; spelled = spelled; slave = slave })
 
 -- an element was made and closed by no later call than the one that drew this id
-abbrev pub IsDrawn : ℕ → FullElement → Type 0
-IsDrawn last x = (x.key.create < last + 1) × (x.delete < last + 1)
+abbrev pub WasDrawn : ℕ → FullElement → Type 0
+WasDrawn last x = (x.key.create < last + 1) × (x.delete < last + 1)
 
 -- the elements of a pseudo file system were
-abbrev pub AreDrawn : ℕ → List FullElement → ℕ → Type 0
-AreDrawn last es pfs = (x : FullElement) → Contains es x → pfs_of x.key.localization ≡ pfs → IsDrawn last x
+abbrev pub WereDrawn : ℕ → List FullElement → ℕ → Type 0
+WereDrawn last es pfs = (x : FullElement) → Contains es x → pfs_of x.key.localization ≡ pfs → WasDrawn last x
 
 -- a pseudo file system is a slave, by its record of now
 abbrev pub IsOfSlave : List FullElement → ℕ → Type 0
@@ -139,7 +139,7 @@ IsNotPassedBy subject x other = subject_of other.key ≡ subject → other.key.c
 
 -- The ids of elements are known: each pseudo file system is a slave, or its elements were made and closed by then.
 abbrev pub AreKnown : ℕ → List FullElement → Type 0
-AreKnown last es = (pfs : ℕ) → IsOfSlave es pfs ⊎ AreDrawn last es pfs
+AreKnown last es = (pfs : ℕ) → IsOfSlave es pfs ⊎ WereDrawn last es pfs
 
 -- an element is the record of now of a pseudo file system, and says that it is a slave
 pub record TellsSlave (es : List FullElement) (pfs : ℕ) (x : FullElement) : Type 0 where
@@ -203,7 +203,7 @@ dec_of_slave es pfs = map_dec (λ h. from_told es pfs h.0 h.1 h.2) (to_told es p
 
 -- an element is of a slave, or was drawn
 abbrev pub IsKnown : ℕ → List FullElement → FullElement → Type 0
-IsKnown last es x = IsOfSlave es (pfs_of x.key.localization) ⊎ IsDrawn last x
+IsKnown last es x = IsOfSlave es (pfs_of x.key.localization) ⊎ WasDrawn last x
 
 pub dec_known : (last : ℕ) (es : List FullElement) (x : FullElement) → Dec (IsKnown last es x)
 dec_known last es x =

@@ -44,7 +44,7 @@ impl Books {
     ghost use Rattle.hm_stored.specs.Mounted.{IsBooksOf};
 
     /// The books of the volume with this header, as it is mounted: no call is open.
-    #[tactic(auto, using(crate::proofs::MountLemmas::header_below, crate::proofs::MountLemmas::header_distinct, crate::proofs::MountLemmas::header_pool))]
+    #[tactic(auto, using(crate::proofs::MountLemmas::header_rules))]
     pub fn of(alloc: Global, header: &Header) -> Books
         requires header { IsHeader header.now }
         ensures { IsBooksOf header.now result }

@@ -45,13 +45,13 @@ pub const MOST_GROUP_PAGES: u32 = 16_128;
 /// How many pages make a flush group full: from so many on it is flushed before the next call.
 pub const FULL_GROUP_PAGES: u32 = 1_024;
 
-/// How many big-blocks of a volume hold its UNDO FIFO.
+/// How many big-blocks of a volume hold its UNDO log.
 pub const UNDO_BIGBLOCKS: u32 = 8;
 
-/// How many entries the UNDO FIFO holds, each with the old bytes of one page.
+/// How many entries the UNDO log holds, each with the old bytes of one page.
 pub const UNDO_ENTRIES: u32 = 16_256;
 
-/// The size of an entry of the UNDO FIFO, in bytes: a page and what is said of it.
+/// The size of an entry of the UNDO log, in bytes: a page and what is said of it.
 pub const UNDO_ENTRY_BYTES: usize = 4_128;
 
 /// The most levels of the B-tree, from the root to the leaves.

@@ -1,11 +1,10 @@
 // Where links lead.
 ghost use Rattle.std.specs.Prelude.{◌≡◌, IfOk};
-ghost use Rattle.hm_key.specs.Balance.{Balanced};
 ghost use Rattle.hm_key.specs.Counts.{Counts};
-ghost use Rattle.hm_key.specs.Stores.{Same};
+ghost use Rattle.hm_key.specs.Members.{InBalance, IsSame, KeepsFrame};
 ghost use Rattle.hm_model.specs.Answer.{link_text};
 ghost use Rattle.hm_records.specs.View.{IsTargetOf};
-ghost use Rattle.hm_cursor.specs.Told.{HasReadingCause, OnBalanced, fulls};
+ghost use Rattle.hm_cursor.specs.Told.{OnBalanced, ReadsWithCause, fulls};
 ghost use Rattle.hm_view.specs.Volumes.{IsTargetTold, OnVolumes, text_by};
 
 use hm_cursor::{find_payload, find_record, target_base};
@@ -33,14 +32,12 @@ pub fn target<T: ElementStore + Extents>(
     inode: &Inode,
     as_of: Id,
 ) -> Result<Text, Fault>
-    requires balanced { Balanced (T.elements store.old) (T.extents store.old) }
+    requires balanced { InBalance T.HasElements store.old }
     ensures ok { IfOk result (λ text. OnVolumes (T.elements store.old) (T.extents store.old)
         (IsTargetTold as_of.0 pfs.0 object inode.now text)) }
-    ensures keeps { Same T.elements T.mark T.extents T.room T.free store.old store.new }
-    ensures borrowed { (T.name store.new ≡ T.name store.old)
-        × (T.frame store.new ≡ T.frame store.old) }
-    ensures cause { HasReadingCause (T.elements store.old) (T.extents store.old)
-        (T.faults store.old) (T.faults store.new) result }
+    ensures keeps { IsSame T.HasElements store.old store.new }
+    ensures borrowed { KeepsFrame T.Counted store.old store.new }
+    ensures cause { ReadsWithCause T.HasElements store.old store.new result }
 {
     match inode.kind {
         SOFTLINK => softlink_target(alloc, store, pfs, object, as_of),
@@ -57,14 +54,12 @@ pub(crate) fn softlink_target<T: ElementStore + Extents>(
     object: Obj,
     as_of: Id,
 ) -> Result<Text, Fault>
-    requires balanced { Balanced (T.elements store.old) (T.extents store.old) }
+    requires balanced { InBalance T.HasElements store.old }
     ensures ok { IfOk result (λ text. OnBalanced (T.elements store.old) (T.extents store.old)
         (λ lists. IsTargetOf (Counts (fulls lists) as_of.0) pfs.0 object.0 text)) }
-    ensures keeps { Same T.elements T.mark T.extents T.room T.free store.old store.new }
-    ensures borrowed { (T.name store.new ≡ T.name store.old)
-        × (T.frame store.new ≡ T.frame store.old) }
-    ensures cause { HasReadingCause (T.elements store.old) (T.extents store.old)
-        (T.faults store.old) (T.faults store.new) result }
+    ensures keeps { IsSame T.HasElements store.old store.new }
+    ensures borrowed { KeepsFrame T.Counted store.old store.new }
+    ensures cause { ReadsWithCause T.HasElements store.old store.new result }
 {
     let mut bytes = [0; MOST_TARGET_BYTES];
     match find_payload(store, &target_base(pfs, object), as_of, &mut bytes)? {
@@ -79,14 +74,12 @@ fn pfs_link_text<T: ElementStore + Extents>(
     store: &mut T,
     pfs: Pfs,
 ) -> Result<Text, Fault>
-    requires balanced { Balanced (T.elements store.old) (T.extents store.old) }
+    requires balanced { InBalance T.HasElements store.old }
     ensures ok { IfOk result (λ text. OnVolumes (T.elements store.old) (T.extents store.old)
         (λ lists volume. text ≡ link_text volume pfs.0)) }
-    ensures keeps { Same T.elements T.mark T.extents T.room T.free store.old store.new }
-    ensures borrowed { (T.name store.new ≡ T.name store.old)
-        × (T.frame store.new ≡ T.frame store.old) }
-    ensures cause { HasReadingCause (T.elements store.old) (T.extents store.old)
-        (T.faults store.old) (T.faults store.new) result }
+    ensures keeps { IsSame T.HasElements store.old store.new }
+    ensures borrowed { KeepsFrame T.Counted store.old store.new }
+    ensures cause { ReadsWithCause T.HasElements store.old store.new result }
 {
     let found = find_record(alloc, store, pfs)?;
     Ok(text_by(alloc, &found, pfs)?)

@@ -1,11 +1,10 @@
 // The names of a directory.
 ghost use Rattle.std.specs.Prelude.{◌≡◌, IfOk};
 ghost use Rattle.std.specs.List.Sorted.{IsPermutation};
-ghost use Rattle.hm_key.specs.Balance.{Balanced};
-ghost use Rattle.hm_key.specs.Stores.{Same};
 ghost use Rattle.hm_model.specs.Answer.{entry_kind, listing};
-ghost use Rattle.hm_cursor.specs.Told.{HasReadingCause};
+ghost use Rattle.hm_cursor.specs.Told.{ReadsWithCause};
 ghost use Rattle.hm_view.specs.Trees.{OnTrees};
+ghost use Rattle.hm_key.specs.Members.{InBalance, IsSame, KeepsFrame};
 
 use crate::pass::{END_OF_KEYS, name_before};
 use hm_cursor::find_inode;
@@ -27,15 +26,13 @@ pub fn list<T: ElementStore + Extents>(
     directory: Obj,
     as_of: Id,
 ) -> Result<Names, Fault>
-    requires balanced { Balanced (T.elements store.old) (T.extents store.old) }
+    requires balanced { InBalance T.HasElements store.old }
     ensures ok { IfOk result (λ names.
         OnTrees (T.elements store.old) (T.extents store.old) pfs.0 as_of.0
         (λ lists tree. names ≡ listing tree directory)) }
-    ensures keeps { Same T.elements T.mark T.extents T.room T.free store.old store.new }
-    ensures borrowed { (T.name store.new ≡ T.name store.old)
-        × (T.frame store.new ≡ T.frame store.old) }
-    ensures cause { HasReadingCause (T.elements store.old) (T.extents store.old)
-        (T.faults store.old) (T.faults store.new) result }
+    ensures keeps { IsSame T.HasElements store.old store.new }
+    ensures borrowed { KeepsFrame T.Counted store.old store.new }
+    ensures cause { ReadsWithCause T.HasElements store.old store.new result }
 {
     let mut names = names_by_key(alloc, store, pfs, directory, as_of)?;
     names.sort_unstable_by(|a, b| a.1.cmp(&b.1));
@@ -50,15 +47,13 @@ fn names_by_key<T: ElementStore + Extents>(
     directory: Obj,
     as_of: Id,
 ) -> Result<Vec<(u8, Name)>, Fault>
-    requires balanced { Balanced (T.elements store.old) (T.extents store.old) }
+    requires balanced { InBalance T.HasElements store.old }
     ensures ok { IfOk result (λ names.
         OnTrees (T.elements store.old) (T.extents store.old) pfs.0 as_of.0
         (λ lists tree. IsPermutation (listing tree directory) names.items)) }
-    ensures keeps { Same T.elements T.mark T.extents T.room T.free store.old store.new }
-    ensures borrowed { (T.name store.new ≡ T.name store.old)
-        × (T.frame store.new ≡ T.frame store.old) }
-    ensures cause { HasReadingCause (T.elements store.old) (T.extents store.old)
-        (T.faults store.old) (T.faults store.new) result }
+    ensures keeps { IsSame T.HasElements store.old store.new }
+    ensures borrowed { KeepsFrame T.Counted store.old store.new }
+    ensures cause { ReadsWithCause T.HasElements store.old store.new result }
 {
     let mut names = Vec::new(alloc);
     let mut end = END_OF_KEYS;
@@ -77,15 +72,13 @@ fn kind_of<T: ElementStore + Extents>(
     object: Obj,
     as_of: Id,
 ) -> Result<u8, Fault>
-    requires balanced { Balanced (T.elements store.old) (T.extents store.old) }
+    requires balanced { InBalance T.HasElements store.old }
     ensures ok { IfOk result (λ kind.
         OnTrees (T.elements store.old) (T.extents store.old) pfs.0 as_of.0
         (λ lists tree. kind ≡ entry_kind tree object)) }
-    ensures keeps { Same T.elements T.mark T.extents T.room T.free store.old store.new }
-    ensures borrowed { (T.name store.new ≡ T.name store.old)
-        × (T.frame store.new ≡ T.frame store.old) }
-    ensures cause { HasReadingCause (T.elements store.old) (T.extents store.old)
-        (T.faults store.old) (T.faults store.new) result }
+    ensures keeps { IsSame T.HasElements store.old store.new }
+    ensures borrowed { KeepsFrame T.Counted store.old store.new }
+    ensures cause { ReadsWithCause T.HasElements store.old store.new result }
 {
     match find_inode(store, pfs, object, as_of)? {
         Some(inode) => Ok(inode.kind),

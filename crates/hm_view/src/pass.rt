@@ -1,10 +1,9 @@
 // A pass over the names of a directory, from the greatest key of their entries down.
 ghost use Rattle.std.specs.Prelude.{◌≡◌, ◌<◌, List, IfOk, IfSome};
 ghost use Rattle.hm_types.specs.declared.object.Triple.{Triple};
-ghost use Rattle.hm_key.specs.Balance.{Balanced};
 ghost use Rattle.hm_key.specs.Counts.{Counts};
-ghost use Rattle.hm_key.specs.Stores.{Same};
-ghost use Rattle.hm_cursor.specs.Told.{HasReadingCause, fulls};
+ghost use Rattle.hm_key.specs.Members.{InBalance, IsSame, KeepsFrame};
+ghost use Rattle.hm_cursor.specs.Told.{ReadsWithCause, fulls};
 ghost use Rattle.hm_view.specs.Pass.{ArePassed, Passes};
 ghost use Rattle.hm_view.specs.Trees.{OnTrees};
 
@@ -27,18 +26,16 @@ pub(crate) fn name_before<T: ElementStore + Extents>(
     end: u64,
     as_of: Id,
 ) -> Result<Option<(u64, DirEntry)>, Fault>
-    requires balanced { Balanced (T.elements store.old) (T.extents store.old) }
+    requires balanced { InBalance T.HasElements store.old }
     ensures falls { IfOk result (λ found. IfSome found (λ pair. pair.0 < end)) }
     ensures ok { IfOk result (λ found.
         OnTrees (T.elements store.old) (T.extents store.old) pfs.0 as_of.0 (λ lists tree.
         (passed : List Triple) →
         ArePassed (Counts (fulls lists) as_of.0) pfs.0 directory end passed →
         Passes (Counts (fulls lists) as_of.0) pfs.0 directory tree passed found)) }
-    ensures keeps { Same T.elements T.mark T.extents T.room T.free store.old store.new }
-    ensures borrowed { (T.name store.new ≡ T.name store.old)
-        × (T.frame store.new ≡ T.frame store.old) }
-    ensures cause { HasReadingCause (T.elements store.old) (T.extents store.old)
-        (T.faults store.old) (T.faults store.new) result }
+    ensures keeps { IsSame T.HasElements store.old store.new }
+    ensures borrowed { KeepsFrame T.Counted store.old store.new }
+    ensures cause { ReadsWithCause T.HasElements store.old store.new result }
 {
     if end == 0 {
         return Ok(None);

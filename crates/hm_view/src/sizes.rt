@@ -1,11 +1,10 @@
 // The sizes of objects.
 ghost use Rattle.std.specs.Prelude.{◌≡◌, List, ℕ, IfOk, length};
 ghost use Rattle.hm_types.specs.Tree.{entries_in};
-ghost use Rattle.hm_key.specs.Balance.{Balanced};
 ghost use Rattle.hm_key.specs.Counts.{Counts};
-ghost use Rattle.hm_key.specs.Stores.{Same};
+ghost use Rattle.hm_key.specs.Members.{InBalance, IsSame, KeepsFrame};
 ghost use Rattle.hm_records.specs.View.{IsTargetOf};
-ghost use Rattle.hm_cursor.specs.Told.{HasReadingCause, OnBalanced, fulls};
+ghost use Rattle.hm_cursor.specs.Told.{OnBalanced, ReadsWithCause, fulls};
 ghost use Rattle.hm_view.specs.Trees.{IsSize, OnTrees};
 
 use crate::pass::{END_OF_KEYS, name_before};
@@ -30,15 +29,13 @@ pub fn size<T: ElementStore + Extents>(
     inode: &Inode,
     as_of: Id,
 ) -> Result<u64, Fault>
-    requires balanced { Balanced (T.elements store.old) (T.extents store.old) }
+    requires balanced { InBalance T.HasElements store.old }
     ensures ok { IfOk result (λ size.
         OnTrees (T.elements store.old) (T.extents store.old) pfs.0 as_of.0
         (IsSize as_of.0 pfs.0 object inode.now size)) }
-    ensures keeps { Same T.elements T.mark T.extents T.room T.free store.old store.new }
-    ensures borrowed { (T.name store.new ≡ T.name store.old)
-        × (T.frame store.new ≡ T.frame store.old) }
-    ensures cause { HasReadingCause (T.elements store.old) (T.extents store.old)
-        (T.faults store.old) (T.faults store.new) result }
+    ensures keeps { IsSame T.HasElements store.old store.new }
+    ensures borrowed { KeepsFrame T.Counted store.old store.new }
+    ensures cause { ReadsWithCause T.HasElements store.old store.new result }
 {
     match inode.kind {
         DIRECTORY => count_names(alloc, store, pfs, object, as_of),
@@ -56,15 +53,13 @@ fn count_names<T: ElementStore + Extents>(
     directory: Obj,
     as_of: Id,
 ) -> Result<u64, Fault>
-    requires balanced { Balanced (T.elements store.old) (T.extents store.old) }
+    requires balanced { InBalance T.HasElements store.old }
     ensures ok { IfOk result (λ count.
         OnTrees (T.elements store.old) (T.extents store.old) pfs.0 as_of.0
         (λ lists tree. count ≡ length (entries_in tree directory))) }
-    ensures keeps { Same T.elements T.mark T.extents T.room T.free store.old store.new }
-    ensures borrowed { (T.name store.new ≡ T.name store.old)
-        × (T.frame store.new ≡ T.frame store.old) }
-    ensures cause { HasReadingCause (T.elements store.old) (T.extents store.old)
-        (T.faults store.old) (T.faults store.new) result }
+    ensures keeps { IsSame T.HasElements store.old store.new }
+    ensures borrowed { KeepsFrame T.Counted store.old store.new }
+    ensures cause { ReadsWithCause T.HasElements store.old store.new result }
 {
     let mut count = 0;
     let mut end = END_OF_KEYS;
@@ -82,15 +77,13 @@ fn target_length<T: ElementStore + Extents>(
     object: Obj,
     as_of: Id,
 ) -> Result<u64, Fault>
-    requires balanced { Balanced (T.elements store.old) (T.extents store.old) }
+    requires balanced { InBalance T.HasElements store.old }
     ensures ok { IfOk result (λ len. OnBalanced (T.elements store.old) (T.extents store.old)
         (λ lists. (text : List ℕ) →
         IsTargetOf (Counts (fulls lists) as_of.0) pfs.0 object.0 text → len ≡ length text)) }
-    ensures keeps { Same T.elements T.mark T.extents T.room T.free store.old store.new }
-    ensures borrowed { (T.name store.new ≡ T.name store.old)
-        × (T.frame store.new ≡ T.frame store.old) }
-    ensures cause { HasReadingCause (T.elements store.old) (T.extents store.old)
-        (T.faults store.old) (T.faults store.new) result }
+    ensures keeps { IsSame T.HasElements store.old store.new }
+    ensures borrowed { KeepsFrame T.Counted store.old store.new }
+    ensures cause { ReadsWithCause T.HasElements store.old store.new result }
 {
     match version_at(store, &target_base(pfs, object), as_of)? {
         Some(element) => Ok(u64::from(element.len)),

@@ -2,10 +2,9 @@
 ghost use Rattle.std.specs.Prelude.{◌≡◌, IfOk, map};
 ghost use Rattle.std.specs.List.Sorted.{IsPermutation};
 ghost use Rattle.hm_types.specs.declared.id.Id.{Id};
-ghost use Rattle.hm_key.specs.Balance.{Balanced};
-ghost use Rattle.hm_key.specs.Stores.{Same};
+ghost use Rattle.hm_key.specs.Members.{InBalance, IsSame, KeepsFrame};
 ghost use Rattle.hm_model.specs.Cut.{named_id, snapshot_ids};
-ghost use Rattle.hm_cursor.specs.Told.{HasReadingCause};
+ghost use Rattle.hm_cursor.specs.Told.{ReadsWithCause};
 ghost use Rattle.hm_view.specs.Snapshots.{id_number, object_id, visible_id};
 ghost use Rattle.hm_view.specs.Trees.{OnTrees};
 
@@ -37,16 +36,14 @@ pub fn snapshot_ids<T: ElementStore + Extents>(
     as_of: Id,
     shown: Id,
 ) -> Result<Vec<Id>, Fault>
-    requires balanced { Balanced (T.elements store.old) (T.extents store.old) }
+    requires balanced { InBalance T.HasElements store.old }
     ensures ok { IfOk result (λ ids.
         OnTrees (T.elements store.old) (T.extents store.old) pfs.0 as_of.0 (λ lists tree.
         IsPermutation (snapshot_ids tree directory shown.0)
         (map (λ (id : Id). id.0) ids.items))) }
-    ensures keeps { Same T.elements T.mark T.extents T.room T.free store.old store.new }
-    ensures borrowed { (T.name store.new ≡ T.name store.old)
-        × (T.frame store.new ≡ T.frame store.old) }
-    ensures cause { HasReadingCause (T.elements store.old) (T.extents store.old)
-        (T.faults store.old) (T.faults store.new) result }
+    ensures keeps { IsSame T.HasElements store.old store.new }
+    ensures borrowed { KeepsFrame T.Counted store.old store.new }
+    ensures cause { ReadsWithCause T.HasElements store.old store.new result }
 {
     let mut ids = Vec::new(alloc);
     let mut end = END_OF_KEYS;
@@ -69,15 +66,13 @@ fn shown_id<T: ElementStore + Extents>(
     as_of: Id,
     shown: Id,
 ) -> Result<Option<Id>, Fault>
-    requires balanced { Balanced (T.elements store.old) (T.extents store.old) }
+    requires balanced { InBalance T.HasElements store.old }
     ensures ok { IfOk result (λ found.
         OnTrees (T.elements store.old) (T.extents store.old) pfs.0 as_of.0 (λ lists tree.
         id_number found ≡ visible_id shown.0 (object_id tree object))) }
-    ensures keeps { Same T.elements T.mark T.extents T.room T.free store.old store.new }
-    ensures borrowed { (T.name store.new ≡ T.name store.old)
-        × (T.frame store.new ≡ T.frame store.old) }
-    ensures cause { HasReadingCause (T.elements store.old) (T.extents store.old)
-        (T.faults store.old) (T.faults store.new) result }
+    ensures keeps { IsSame T.HasElements store.old store.new }
+    ensures borrowed { KeepsFrame T.Counted store.old store.new }
+    ensures cause { ReadsWithCause T.HasElements store.old store.new result }
 {
     let Some(inode) = find_inode(store, pfs, object, as_of)? else {
         return Ok(None);

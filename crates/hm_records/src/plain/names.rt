@@ -8,7 +8,7 @@ ghost use Rattle.hm_records.specs.PlainView.{
   HoldsTriples,
   IsEarlierEntry,
   IsEntryAt,
-  IsFirstEntry,
+  NameLeadsTo,
   IsNewTriple,
 };
 
@@ -86,7 +86,7 @@ fn first_entry(
     id: u64,
 ) -> Result<Option<Obj>, NoMemory>
     requires { HaveOwnKeys elements.now }
-    ensures { IfOk result (IsFirstEntry (Counts elements.now id) pfs.0 directory name.now) }
+    ensures { IfOk result (NameLeadsTo (Counts elements.now id) pfs.0 directory name.now) }
 {
     let mut first: Option<u64> = None;
     for element in elements {

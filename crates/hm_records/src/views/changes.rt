@@ -6,7 +6,7 @@ ghost use Rattle.hm_key.specs.Counts.{Counts, IsSeen, Subject, subject_of};
 ghost use Rattle.hm_key.specs.Versions.{Adds, Closes, HaveOwnKeys, IsBelow, TakesOut, Replaces};
 ghost use Rattle.hm_records.specs.Changes.{CountSame, Overrides};
 ghost use Rattle.hm_records.specs.Follows.{VersionsFollow};
-ghost use Rattle.hm_records.specs.Laws.{IsUpTo};
+ghost use Rattle.hm_records.specs.Laws.{HasIdsUpTo};
 
 /// As of an id below that of a change the same counts as before: below the one that made an added
 /// element, and below the one at which elements were closed. As of an id that did not see it, an
@@ -47,16 +47,16 @@ pub fn replaced_versions_count_no_more()
 
 /// As of all ids that no id of the list is above the same counts.
 pub fn later_ids_count_the_same()
-    ensures { (es : List FullElement) (t u : ℕ) → IsUpTo t es → IsUpTo u es →
+    ensures { (es : List FullElement) (t u : ℕ) → HasIdsUpTo t es → HasIdsUpTo u es →
         CountSame (Counts es t) (Counts es u) }
 {}
 
 /// What a change by an id leaves has no id above it.
 pub fn ids_stay_below()
     ensures adds { (e : FullElement) (es es' : List FullElement) (i : ℕ) → Adds e es es' →
-        IsBelow i es → e.key.create ≤ i → e.delete ≤ i → IsUpTo i es' }
+        IsBelow i es → e.key.create ≤ i → e.delete ≤ i → HasIdsUpTo i es' }
     ensures closes { (s : Subject) (i : ℕ) (es es' : List FullElement) → Closes s i es es' →
-        IsBelow i es → IsUpTo i es' }
+        IsBelow i es → HasIdsUpTo i es' }
     ensures takes_out { (e : FullElement) (es es' : List FullElement) (i : ℕ) →
         TakesOut e es es' → IsBelow i es → IsBelow i es' }
     ensures later { (es : List FullElement) (i j : ℕ) → i ≤ j → IsBelow i es → IsBelow j es }

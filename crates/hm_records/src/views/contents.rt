@@ -11,7 +11,7 @@ ghost use Rattle.hm_key.specs.Counts.{
 };
 ghost use Rattle.hm_key.specs.Versions.{AreSorted, HaveOwnKeys};
 ghost use Rattle.hm_records.specs.Changes.{CountSame, IsSettled};
-ghost use Rattle.hm_records.specs.Laws.{AsOf, IsUpTo, counts_of};
+ghost use Rattle.hm_records.specs.Laws.{AsOf, HasIdsUpTo, counts_of};
 ghost use Rattle.hm_records.specs.View.{IsView};
 
 /// Lists of which the same counts for every subject, each as of its id, have the same views.
@@ -43,6 +43,6 @@ pub fn records_are_what_counts_last()
         ((x : FullElement) → Contains es x → subject_of x.key ≡ record_subject pfs →
         x.delete ≢ 0) →
         IsRecordOf es pfs bytes → ⊥ }
-    ensures counts { (es : List FullElement) (pfs t : ℕ) (bytes : List ℕ) → IsUpTo t es →
+    ensures counts { (es : List FullElement) (pfs t : ℕ) (bytes : List ℕ) → HasIdsUpTo t es →
         IsRecordOf es pfs bytes ↔ Counts es t (record_subject pfs) bytes }
 {}

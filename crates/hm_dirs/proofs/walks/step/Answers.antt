@@ -1,4 +1,4 @@
-use Rattle.hm_dirs.proofs.WalkToldLemmas.{step_lost, step_on}
+use Rattle.hm_dirs.proofs.WalkPartsLemmas.{step_lost, step_on}
 use Rattle.hm_dirs.proofs.walks.step.Goals as goal
 
 pub returns-in-Ok-clause-ok : goal.returns-in-Ok-clause-ok

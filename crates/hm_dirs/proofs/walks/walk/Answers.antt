@@ -2,7 +2,7 @@ use Rattle.std.proofs.Common.{◌-◌, ◌∙◌, List, arith, drop, length, tak
 use Rattle.hm_path.specs.declared.part.Part.{Part}
 use Rattle.hm_dirs.specs.Walk.{mode_of}
 use Rattle.hm_dirs.proofs.WalkLoopLemmas.{before_is, first_and_more, now_on, same_twice}
-use Rattle.hm_dirs.proofs.WalkToldLemmas.{loop_begins, loop_goes, loop_lost}
+use Rattle.hm_dirs.proofs.WalkPartsLemmas.{loop_begins, loop_goes, loop_lost}
 use Rattle.hm_dirs.proofs.walks.walk.Goals as goal
 
 pub loop-rest-init : goal.loop-rest-init

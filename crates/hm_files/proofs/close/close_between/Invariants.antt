@@ -1,4 +1,4 @@
-use Rattle.std.proofs.Common.{◌≡◌, ◌≤◌, ◌+◌, ◌-◌, max}
+use Rattle.std.proofs.Common.{◌≡◌, ◌≤◌, ◌+◌, min}
 use Rattle.std.specs.Prelude.{is_some}
 use Rattle.hm_types.specs.Space.{Spends, nothing}
 use Rattle.hm_files.proofs.CloseToldLemmas.{ClosedTold}
@@ -7,9 +7,9 @@ use Rattle.hm_files.proofs.close.close_between.Given as goal
 -- the bytes so far are closed
 abbrev pub invariant-loop-key : goal.invariant-loop-key
 invariant-loop-key g l = record {
-  from : l.fn.first ≤ l.key;
-  to : l.key ≤ max l.fn.first l.last;
-  closed : ClosedTold l.fn.pfs.0 l.fn.obj.0 l.fn.id.0 l.fn.first l.key (g.T.HasElements.elements l.fn.store)
+  low : min l.first l.last ≤ l.key;
+  high : l.key ≤ l.last;
+  closed : ClosedTold l.fn.pfs.0 l.fn.obj.0 l.fn.id.0 (l.key + 1) (l.last + 1) (g.T.HasElements.elements l.fn.store)
       (g.T.HasRoom.extents l.fn.store) (g.T.HasElements.elements l.store) (g.T.HasRoom.extents l.store);
   elements : is_some (g.T.HasElements.elements l.store) ≡ is_some (g.T.HasElements.elements l.fn.store);
   extents : is_some (g.T.HasRoom.extents l.store) ≡ is_some (g.T.HasRoom.extents l.fn.store);
@@ -20,4 +20,4 @@ invariant-loop-key g l = record {
 }
 
 abbrev pub decreases-loop-key : goal.decreases-loop-key
-decreases-loop-key g l = l.last + 1 - l.key
+decreases-loop-key g l = l.key

@@ -6,16 +6,17 @@ use Rattle.hm_key.specs.Elements.{IsContent}
 use Rattle.hm_key.specs.Key.{key_of}
 use Rattle.hm_key.specs.declared.element.Element.{Element}
 use Rattle.hm_cursor.specs.Told.{Lists, fulls}
-use Rattle.hm_cursor.specs.Version.{IsFirst}
+use Rattle.hm_cursor.specs.Version.{IsFirst, IsLast, numbered}
 use Rattle.hm_cursor.proofs.CallLemmas.{Change, writes_from, writes_so}
 use Rattle.hm_files.specs.Bytes.{AreRead}
 use Rattle.hm_files.specs.Close.{AreOlder, ClosesBytes}
 use Rattle.hm_files.specs.Put.{CutsBytes, PutsBlock}
-use Rattle.hm_files.proofs.CloseToldLemmas.{content_told}
+use Rattle.hm_files.proofs.CloseLemmas.{numbered_about}
+use Rattle.hm_files.proofs.CloseToldLemmas.{content_told, searched_from}
 use Rattle.hm_files.proofs.CutLemmas.{AreBlocks, cut_closed}
 use Rattle.hm_files.proofs.CutToldLemmas.{IsKnown, cut_read, cut_unseen}
 use Rattle.hm_files.proofs.ReadLemmas.{still_read}
-use Rattle.hm_files.proofs.TellLemmas.{cause_later, known_blocks, known_elements, known_lists, known_two, none_of, writes_to, writes_via, writes_with}
+use Rattle.hm_files.proofs.TellLemmas.{cause_later, known_blocks, known_elements, known_lists, known_two, writes_to, writes_via, writes_with}
 use Rattle.hm_files.proofs.cut.cut_bytes.Goals as goal
 
 pub returns-then-begin-keep-clause-ok : goal.returns-then-begin-keep-clause-ok
@@ -36,8 +37,8 @@ returns-then-begin-keep-clause-ok g c =
     (λ t n late above low. absurd (omega (arith, above, low)))) wrote)
     c.close_between.ensures.ok
 
-pub returns-then-is_none-clause-ok : goal.returns-then-is_none-clause-ok
-returns-then-is_none-clause-ok g c =
+pub returns-in_default-clause-ok : goal.returns-in_default-clause-ok
+returns-in_default-clause-ok g c =
     let elements = g.T.HasElements.elements in
     let extents = g.T.HasRoom.extents in
     let pfs = c.args.pfs.0 in
@@ -48,21 +49,24 @@ returns-then-is_none-clause-ok g c =
     let at = key_of c.bytes_base-at.result in
     let old = c.args.store.now in
     let mid = c.close_between-2.new.store in
-    let new = c.first_version.new.store in
-    let searched = c.in_ok-first_version.ensures in
+    let new = c.last_version.new.store in
+    let searched = c.in_ok-last.ensures in
     let One : Change = ClosesBytes pfs obj i (end + 1) (2 ^ 64) in
     let Cut : Change = CutsBytes pfs obj i keep in
-    let L : Lists → Type 0 = λ lists. IsFirst lists.0 at end i None in
+    let span = numbered at (keep + 1) in
+    let about = c.bytes_base-at.ensures.about in
+    let L : Lists → Type 0 = λ lists. IsFirst lists.0 span end i None in
     let aligned : end % 16384 ≡ 0 = omega arith in
     let within : keep ≤ end = omega arith in
-    let none = none_of c.in_ok-first_version.field-0 c.if-is_none.ensures in
+    let none = searched_from (elements mid) at span pfs obj end i None about
+    (subst (λ (f : Option Element). IfSome (elements mid) (λ list. IsLast list span at.key i f)) c.in_default.is searched.ok) in
     writes_to elements extents Cut old mid new searched.keeps.elements searched.keeps.extents
     (writes_with elements extents One Cut (IsKnown pfs obj i) L old mid
-    (λ was now known unseen balanced closes. cut_unseen pfs obj i end aligned was now known closes at keep c.bytes_base-at.ensures.about within unseen)
+    (λ was now known unseen balanced closes. cut_unseen pfs obj i end aligned was now known closes span keep
+    (numbered_about at pfs obj end (keep + 1) about) within unseen)
     (known_two (λ lists. AreBlocks (fulls lists)) (λ lists. AreOlder pfs obj i 0 (fulls lists)) (content_of (elements old) (extents old))
     (known_blocks (elements old) (extents old) (g.met.T.ElementStore.sorted old) (g.met.T.Extents.live old) c.requires.balanced) c.requires.older)
-    (known_elements (elements mid) (extents mid) (λ list. IsFirst list at end i None)
-    (subst (λ (f : Option Element). IfSome (elements mid) (λ list. IsFirst list at end i f)) none searched.ok))
+    (known_elements (elements mid) (extents mid) (λ list. IsFirst list span end i None) none)
     c.in_ok-close_between.ensures.ok)
 
 pub returns-clause-ok : goal.returns-clause-ok
@@ -77,11 +81,11 @@ returns-clause-ok g c =
     let end = begin + 16384 in
     let old = c.args.store.now in
     let mid = c.close_between-2.new.store in
-    let looked = c.first_version.new.store in
+    let looked = c.last_version.new.store in
     let last = c.read_all.new.store in
     let new = c.put_block.new.store in
     let front = c.read_all.new.buffer in
-    let searched = c.in_ok-first_version.ensures in
+    let searched = c.in_ok-last.ensures in
     let read = c.in_ok-read_all.ensures in
     let One : Change = ClosesBytes pfs obj i (end + 1) (2 ^ 64) in
     let Two : Change = PutsBlock pfs obj i begin front in
@@ -113,7 +117,7 @@ returns-clause-cause g c =
     let old = c.args.store.now in
     let last = c.read_all.new.store in
     let closed = c.in_ok-close_between.ensures in
-    let searched = c.in_ok-first_version.ensures in
+    let searched = c.in_ok-last.ensures in
     let read = c.in_ok-read_all.ensures in
     cause_later (content_of (elements old) (extents old)) (content_of (elements last) (extents last)) (faults old) (faults last)
     (faults c.put_block.new.store) c.put_block.result

@@ -7,7 +7,7 @@ use Rattle.hm_files.proofs.read.read_piece.Goals as goal
 pub returns-in-Some-clause-ok : goal.returns-in-Some-clause-ok
 returns-in-Some-clause-ok g c =
     piece_found (key_of c.bytes_base-at.result) c.args.pfs.0 c.args.obj.0 c.args.offset c.end_of_block-last.result c.args.as_of.0 c.bytes_base-at.ensures.about
-    (g.T.HasElements.elements c.args.store.now) (g.T.HasRoom.extents c.args.store.now) (g.T.HasRoom.extents c.first_version.new.store)
+    (g.T.HasElements.elements c.args.store.now) (g.T.HasRoom.extents c.args.store.now) (g.T.HasRoom.extents c.first_near.new.store)
     c.in_ok-element.field-0 c.in-Some.element c.read_element.result _
     (g.met.T.ElementStore.sorted c.args.store.now) (g.met.T.Extents.live c.args.store.now) c.in_ok-element.ensures.keeps.extents c.in-Some.is
     c.in_ok-element.ensures.ok c.read_element.ensures.ok

@@ -8,7 +8,7 @@ use Rattle.hm_search.proofs.DescentLemmas.{child_lower}
 use Rattle.hm_load.specs.Damage.{IsTreeDamage}
 use Rattle.hm_load.specs.Faults.{Tells}
 use Rattle.hm_load.specs.Held.{AreRead, IsApart}
-use Rattle.hm_load.specs.Payload.{IsPayloadDamage}
+use Rattle.hm_load.specs.Payload.{IsFirstBadPayload}
 use Rattle.hm_load.specs.Tree.{AddsNode}
 use Rattle.hm_load.proofs.ApartLemmas.{child_apart}
 use Rattle.hm_load.proofs.StoreLemmas.{err_is, on_any, on_ok, told_both, told_so, told_three, told_was}
@@ -46,7 +46,7 @@ returns-in-Leaf-clause-damage g t c =
     let adds = subst (λ (n : Node). AddsNode c.args.subtree.now n (contents c.args.store.now).current
     (contents c.load_node.new.store).current) c.in-Leaf.is c.in_ok-leaf.ensures.ok.1 in
     told_both (g.D.Disk.told c.args.disk.now)
-    (λ u pages damage. IfErr-weaker c.check_payloads.result (Tells (IsPayloadDamage u.bytes c.args.volume.now.bigblocks c.in-Leaf.leaf.places.items))
+    (λ u pages damage. IfErr-weaker c.check_payloads.result (Tells (IsFirstBadPayload u.bytes c.args.volume.now.bigblocks c.in-Leaf.leaf.places.items))
     (Tells (λ at kind. IsTreeDamage u.bytes c.args.volume.now.bigblocks at kind c.args.subtree.now))
     (λ fault tells. leaf_damage u.bytes c.args.volume.now.bigblocks c.args.subtree.now c.in-Leaf.leaf (contents c.args.store.now).current
     (contents c.load_node.new.store).current fault adds pages tells) damage)

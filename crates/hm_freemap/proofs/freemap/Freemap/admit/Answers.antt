@@ -1,6 +1,6 @@
 use Rattle.std.proofs.Common.{◌≡◌, ◌∙◌, ◌+◌, ◌-◌, ◌^◌, min, ℕ, ap, arith}
 use Rattle.hm_types.specs.References.{pool}
-use Rattle.hm_freemap.specs.Renew.{count_of}
+use Rattle.hm_freemap.specs.Renew.{lacking_count}
 use Rattle.hm_freemap.specs.Scan.{Finds}
 use Rattle.hm_freemap.specs.Stand.{WhereTold, is_free_by}
 use Rattle.hm_freemap.proofs.GrantLemmas.{told_none, told_some}
@@ -28,7 +28,7 @@ returns-clause-ok g c =
     let committed = g.P.States.committed self.pages in
     let frozen = g.P.States.frozen self.pages in
     let current = g.P.Pages.pages self.pages in
-    let sized : wanted ≡ min (count_of lack + c.args.held) (2 ^ 32 - 1) =
+    let sized : wanted ≡ min (lacking_count lack + c.args.held) (2 ^ 32 - 1) =
     c.saturating_add-wanted.ensures ∙ ap (λ (n : ℕ). min (n + c.args.held) (2 ^ 32 - 1)) c.count-needed.ensures.value in
     let finds : WhereTold committed frozen current (λ maps. Finds (is_free_by self.append maps) wanted (pool self.bigblocks) found) =
     where_at committed frozen current (g.P.States.committed c.lacking.new.pages) (g.P.States.frozen c.lacking.new.pages) (g.P.Pages.pages c.lacking.new.pages)

@@ -4,7 +4,7 @@ use Rattle.hm_types.specs.declared.id.Obj.{Obj}
 use Rattle.hm_records.specs.declared.entry.DirEntry.{DirEntry}
 use Rattle.hm_key.specs.Counts.{Counts, entry_subject, subject_of}
 use Rattle.hm_records.specs.View.{HasEntry}
-use Rattle.hm_records.specs.PlainView.{IsEntryAt, IsFirstEntry}
+use Rattle.hm_records.specs.PlainView.{IsEntryAt, NameLeadsTo}
 use Rattle.hm_records.proofs.ChangeLemmas.{about_is}
 use Rattle.hm_records.proofs.CountsLemmas.{settled}
 use Rattle.hm_records.proofs.PlainTreeLemmas.{triple_known, triple_lacks}
@@ -33,5 +33,5 @@ returns-in_default-2 c =
     (subst (λ (o : Option DirEntry). IsEntryAt (Counts c.args.elements.now c.args.id) c.args.pfs.0 c.obj-directory.result c.key-2.result o)
     c.in-Some.is c.in_ok-entry.ensures) in
     triple_lacks (Counts c.args.elements.now c.args.id) c.args.pfs.0 c.args.element.now c.obj-directory.result c.in-Some.entry c.args.triples.now has
-    (subst (λ (o : Option Obj). IsFirstEntry (Counts c.args.elements.now c.args.id) c.args.pfs.0 c.obj-directory.result c.in-Some.entry.name o)
+    (subst (λ (o : Option Obj). NameLeadsTo (Counts c.args.elements.now c.args.id) c.args.pfs.0 c.obj-directory.result c.in-Some.entry.name o)
     c.in_default-2.is c.in_ok-object.ensures)

@@ -15,7 +15,7 @@ use Rattle.hm_stored.specs.Moving.{StandsIn}
 use Rattle.hm_stored.specs.declared.space.Space.{Space}
 use Rattle.hm_relocate.specs.Unit.{Way}
 use Rattle.hm_relocate.specs.Way.{way_of}
-use Rattle.hm_relocate.proofs.UnitLemmas.{moves_node, rearranges_later, spends_less, spends_node, stands_still}
+use Rattle.hm_relocate.proofs.UnitLemmas.{moves_node, node_there, rearranges_later, spends_less, spends_node, stands_still}
 use Rattle.hm_relocate.proofs.UnitLemmas.{tries_fault, tries_moved, tries_none, tries_room}
 use Rattle.hm_relocate.proofs.relocation.Relocation.move_node.Goals as goal
 
@@ -36,10 +36,12 @@ returns-in_err-admit-clause-tries g c =
     let s1 = c.node_from.new.stored in
     let s2 = c.admit.new.self in
     let way = way_of c.args.self.now in
+    let there = node_there c.args.self.now.payloads.choice (heap s.space) (heap s1.space) c.in_ok-place.field-0 c.in-Some.place c.in-Some.is
+    c.node_from.ensures.nodes c.in_ok-place.ensures.there in
     rw (p.1, p.2) (tries_room way way c.args.self.now.payloads.choice (g.D.Disk.faults s.space.disk) (g.D.Disk.faults s2.space.disk)
     (heap s.space) (heap s2.space)
     s.root s2.root (heap s1.space) s1.root (g.D.Disk.faults s1.space.disk) c.node_from.ensures.cause.counted.never_falls c.only.result 8
-    c.in_err-admit.field-0.0 c.node_from.ensures.looks c.only.ensures (inl refl) c.in_err-admit.ensures.cause c.in_err-admit.ensures.answers.no_space)
+    c.in_err-admit.field-0.0 c.node_from.ensures.looks c.only.ensures (inl (refl, there)) c.in_err-admit.ensures.cause c.in_err-admit.ensures.answers.no_space)
 
 pub move_node-requires-clause-there : goal.move_node-requires-clause-there
 move_node-requires-clause-there g c =

@@ -17,7 +17,7 @@ returns-then-count-eq0 c = (
 
 pub returns-then-not-holds : goal.returns-then-not-holds
 returns-then-not-holds c =
-    let base = c.read_base.ensures ∙ ap (base_in c.args.page.now) c.place.ensures in (
+    let base = ap (base_in c.args.page.now) c.place.ensures in (
       λ is. absurd cc,
       λ all.
           let inside = at_inside c.args.self.now.left c.args.self.now.right c.args.page.now c.args.count 0 (omega (arith, c.if-count-eq0.false)) all.0 in
@@ -27,8 +27,8 @@ returns-then-not-holds c =
 
 pub returns : goal.returns
 returns c =
-    let front = c.read_base.ensures ∙ ap (base_in c.args.page.now) c.place.ensures in
-    let last = c.read_base-2.ensures ∙ ap (base_in c.args.page.now) c.place-2.ensures in (
+    let front = ap (base_in c.args.page.now) c.place.ensures in
+    let last = ap (base_in c.args.page.now) c.place-2.ensures in (
       λ is. (
         inside_at c.args.self.now.left c.args.self.now.right c.args.page.now c.args.count 0
             (λ low. subst (λ (b : Base). IsInside c.args.self.now.left c.args.self.now.right (key_of b)) front (c.holds.ensures.0 c.if-not-holds.false)),
