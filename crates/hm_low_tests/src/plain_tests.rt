@@ -211,21 +211,19 @@ fn of_several_versions_the_newest_decides(rt: HostRuntime) -> Result<(), Fail> {
 }
 
 #[test]
-fn files_have_holes_and_are_cut_and_extended(rt: HostRuntime) -> Result<(), Fail> {
+fn files_are_cut_and_extended(rt: HostRuntime) -> Result<(), Fail> {
     let alloc = rt.alloc();
     let elements = vec![in alloc;
         // twelve bytes, then three, then six
         inode(alloc, 5, (5, 6), FILE, 12, 1)?,
         inode(alloc, 5, (6, 7), FILE, 3, 1)?,
         inode(alloc, 5, (7, 0), FILE, 6, 1)?,
-        // bytes 0 to 3, of which 0 to 2 are left from id 6 on
+        // bytes 0 to 9, of which 0 to 2 are left from id 6 on
         bytes(alloc, 5, 3, (6, 0), "abc")?,
-        bytes(alloc, 5, 4, (5, 6), "abcd")?,
-        // bytes 8 and 9
-        bytes(alloc, 5, 10, (5, 6), "ij")?,
+        bytes(alloc, 5, 10, (5, 6), "abcdefghij")?,
     ]?;
     for (id, wanted) in [
-        (5u64, "5f1<abcd....ij..> "),
+        (5u64, "5f1<abcdefghij..> "),
         (6, "5f1<abc> "),
         (7, "5f1<abc...> "),
     ] {
@@ -235,22 +233,31 @@ fn files_have_holes_and_are_cut_and_extended(rt: HostRuntime) -> Result<(), Fail
 }
 
 #[test]
-fn the_first_bytes_that_end_after_a_byte_have_it(rt: HostRuntime) -> Result<(), Fail> {
+fn of_the_bytes_of_a_block_one_element_shows(rt: HostRuntime) -> Result<(), Fail> {
     let alloc = rt.alloc();
     let elements = vec![in alloc;
-        inode(alloc, 5, (5, 0), FILE, 9, 1)?,
-        // bytes 0 to 3, 0 to 5 and 7 to 8 of one file, made by one id
-        bytes(alloc, 5, 4, (5, 7), "abcd")?,
+        // nine bytes, then five, then three, then seven
+        inode(alloc, 5, (5, 7), FILE, 9, 1)?,
+        inode(alloc, 5, (7, 8), FILE, 5, 1)?,
+        inode(alloc, 5, (8, 9), FILE, 3, 1)?,
+        inode(alloc, 5, (9, 0), FILE, 7, 1)?,
+        // bytes 0 to 3, 0 to 5 and 7 to 8 of one block, made by one id
+        bytes(alloc, 5, 4, (5, 0), "abcd")?,
         bytes(alloc, 5, 6, (5, 0), "ABCDEF")?,
-        bytes(alloc, 5, 9, (5, 0), "hi")?,
+        bytes(alloc, 5, 9, (5, 6), "hi")?,
         // a later version of the bytes that end before byte 6 is shorter
-        bytes(alloc, 5, 6, (6, 0), "f")?,
+        bytes(alloc, 5, 6, (9, 0), "f")?,
+        // bytes of the second block, which begins past the file
+        bytes(alloc, 5, 16_385, (5, 0), "z")?,
     ]?;
     for (id, wanted) in [
-        (5u64, "5f1<abcdEF.hi> "),
-        (6, "5f1<abcd.f.hi> "),
-        // where none ends before byte 4 any more, the first one that ends later begins too late
-        (7, "5f1<.....f.hi> "),
+        // the last one that ends within the file
+        (5u64, "5f1<.......hi> "),
+        (6, "5f1<ABCDEF...> "),
+        (7, "5f1<abcd.> "),
+        // none ends within the file: the first one past it
+        (8, "5f1<abc> "),
+        (9, "5f1<.....f.> "),
     ] {
         assert_eq!(rt; shown(alloc, &elements, id)?.as_str(), wanted, "{id}");
     }

@@ -1,8 +1,9 @@
 -- What counts decides which objects and triples there are, and of one number there is at most one object.
-use Rattle.std.proofs.Common.{◌≡◌, ℕ, ◌<◌, List, length, slice_index, refl, sym, ap, subst, ◌∙◌, arith}
-use Rattle.std.specs.Prelude.{◌↔◌}
+use Rattle.std.proofs.Common.{◌≡◌, ℕ, ◌+◌, ◌/◌, ◌<◌, ◌≤◌, List, length, slice_index, refl, sym, ap, subst, ◌∙◌, arith}
+use Rattle.std.specs.Prelude.{◌↔◌, ◌⊎◌}
 use Rattle.std.proofs.lemmas.Grind.{same_number_lists}
 use Rattle.hm_types.specs.declared.id.Obj.{Obj}
+use Rattle.hm_types.specs.declared.limits.TheConstants.{BLOCK_BYTES}
 use Rattle.hm_types.specs.declared.object.Object.{Object}
 use Rattle.hm_types.specs.declared.object.Triple.{Triple}
 use Rattle.hm_types.specs.declared.object.Kind.{Kind}
@@ -13,8 +14,8 @@ use Rattle.hm_records.specs.declared.inode.Inode.{Inode}
 use Rattle.hm_records.specs.declared.kind.TheConstants.{FILE, SOFTLINK}
 use Rattle.hm_records.specs.Inode.{IsInode, inode_bytes}
 use Rattle.hm_key.specs.Counts.{Content, inode_subject, bytes_subject, target_subject}
-use Rattle.hm_records.specs.View.{AreFileBytes, IsFileByte, covered, hole, past, IsFirstAfter, IsHeld, IsObject, IsTargetOf, held, missing, IsTriple}
-use Rattle.hm_records.specs.View.{kind_number}
+use Rattle.hm_records.specs.View.{AreFileBytes, IsFileByte, beside, covered, none as empty, IsHeld, IsObject, IsShown, IsTargetOf, held, missing}
+use Rattle.hm_records.specs.View.{IsTriple, ShowsRather, kind_number}
 use Rattle.hm_records.specs.Changes.{AgreeOnName, AgreeOnObject, IsSettled}
 use Rattle.hm_records.proofs.InodeLemmas.{inode_in, inode_back}
 
@@ -38,23 +39,26 @@ SameBytes pfs obj C D = (end : ℕ) (bytes : List ℕ) → D (bytes_subject pfs 
 abbrev pub SameTarget : ℕ → ℕ → Content → Content → Type 0
 SameTarget pfs obj C D = (bytes : List ℕ) → D (target_subject pfs obj) bytes ↔ C (target_subject pfs obj) bytes
 
-first_kept : (pfs obj x end : ℕ) (bytes : List ℕ) (C D : Content) → SameBytes pfs obj C D
-    → IsFirstAfter C pfs obj x end bytes → IsFirstAfter D pfs obj x end bytes
-first_kept pfs obj x end bytes C D same first = record {
-  there = (same end bytes).1 first.there;
-  after = first.after;
-  first = λ other others there. first.first other others ((same other others).0 there);
+pub shown_kept : (pfs obj size block end : ℕ) (bytes : List ℕ) (C D : Content) → SameBytes pfs obj C D
+    → IsShown C pfs obj size block end bytes → IsShown D pfs obj size block end bytes
+shown_kept pfs obj size block end bytes C D same shown = record {
+  there = (same end bytes).1 shown.there;
+  place = shown.place;
+  rather = λ other others there. shown.rather other others ((same other others).0 there);
 }
 
-byte_kept : (pfs obj x byte : ℕ) (C D : Content) → SameBytes pfs obj C D → IsFileByte C pfs obj x byte → IsFileByte D pfs obj x byte
-byte_kept pfs obj x byte C D same (covered end bytes first reaches is) = covered end bytes (first_kept pfs obj x end bytes C D same first) reaches is
-byte_kept pfs obj x byte C D same (hole end bytes first short is) = hole end bytes (first_kept pfs obj x end bytes C D same first) short is
-byte_kept pfs obj x byte C D same (past none is) = past (λ end bytes there. none end bytes ((same end bytes).0 there)) is
+pub byte_kept : (pfs obj size x byte : ℕ) (C D : Content) → SameBytes pfs obj C D → IsFileByte C pfs obj size x byte
+    → IsFileByte D pfs obj size x byte
+byte_kept pfs obj size x byte C D same (covered end bytes shown after reaches is) =
+    covered end bytes (shown_kept pfs obj size (x / BLOCK_BYTES) end bytes C D same shown) after reaches is
+byte_kept pfs obj size x byte C D same (beside end bytes shown apart is) =
+    beside end bytes (shown_kept pfs obj size (x / BLOCK_BYTES) end bytes C D same shown) apart is
+byte_kept pfs obj size x byte C D same (empty nothing is) = empty (λ end bytes there. nothing end bytes ((same end bytes).0 there)) is
 
-bytes_kept : (pfs obj size : ℕ) (bytes : List ℕ) (C D : Content) → SameBytes pfs obj C D → AreFileBytes C pfs obj size bytes
+pub bytes_kept : (pfs obj size : ℕ) (bytes : List ℕ) (C D : Content) → SameBytes pfs obj C D → AreFileBytes C pfs obj size bytes
     → AreFileBytes D pfs obj size bytes
 bytes_kept pfs obj size bytes C D same are =
-    record { sized = are.sized; each = λ x below. byte_kept pfs obj x (slice_index bytes x) C D same (are.each x below) }
+    record { sized = are.sized; each = λ x below. byte_kept pfs obj size x (slice_index bytes x) C D same (are.each x below) }
 
 target_kept : (pfs obj : ℕ) (text : List ℕ) (C D : Content) → SameTarget pfs obj C D → IsTargetOf C pfs obj text → IsTargetOf D pfs obj text
 target_kept pfs obj text C D same (held there) = held ((same text).1 there)
@@ -92,39 +96,51 @@ triple_kept pfs t C D agree is = record {
 pub inode_one : (i j : Inode) → IsInode i → IsInode j → inode_bytes i ≡ inode_bytes j → i ≡ j
 inode_one i j is is' same = sym (inode_back i is) ∙ ap inode_in same ∙ inode_back j is'
 
-first_one : (pfs obj x end end' : ℕ) (bytes bytes' : List ℕ) (C : Content) → IsSettled C → IsFirstAfter C pfs obj x end bytes
-    → IsFirstAfter C pfs obj x end' bytes' → (end ≡ end') × (bytes ≡ bytes')
-first_one pfs obj x end end' bytes bytes' C settled a b =
-    let same : end ≡ end' = omega (arith, a.first end' bytes' b.there b.after, b.first end bytes a.there a.after) in (
+pub rather_both : (size a b : ℕ) → ShowsRather size a b → ShowsRather size b a → a ≡ b
+rather_both size a b first second = omega (arith, first, second)
+
+-- what shows in a block of a file of one size ends at one place, and is one
+pub shown_one : (pfs obj size block end end' : ℕ) (bytes bytes' : List ℕ) (C : Content) → IsSettled C → IsShown C pfs obj size block end bytes
+    → IsShown C pfs obj size block end' bytes' → (end ≡ end') × (bytes ≡ bytes')
+shown_one pfs obj size block end end' bytes bytes' C settled a b =
+    let same : end ≡ end' =
+    rather_both size end end' (a.rather end' bytes' b.there b.place) (b.rather end bytes a.there a.place) in (
       same,
       settled (bytes_subject pfs obj end') bytes bytes' (subst (λ (n : ℕ). C (bytes_subject pfs obj n) bytes) same a.there) b.there,
     )
 
-byte_one : (pfs obj x a b : ℕ) (C : Content) → IsSettled C → IsFileByte C pfs obj x a → IsFileByte C pfs obj x b → a ≡ b
-byte_one pfs obj x a b C settled (covered end bytes first reaches is) (covered end' bytes' first' reaches' is') =
-    let same = first_one pfs obj x end end' bytes bytes' C settled first first' in
+-- bytes do not reach over a place and end beside it
+over_or_beside : (x end end' : ℕ) (bytes bytes' : List ℕ) → (end ≡ end') × (bytes ≡ bytes') → x < end → end ≤ x + length bytes
+    → (end' ≤ x) ⊎ (x + length bytes' < end') → ⊥
+over_or_beside x end end' bytes bytes' same after reaches apart = omega (arith, same.0, ap length same.1, after, reaches, apart)
+
+pub byte_one : (pfs obj size x a b : ℕ) (C : Content) → IsSettled C → IsFileByte C pfs obj size x a → IsFileByte C pfs obj size x b → a ≡ b
+byte_one pfs obj size x a b C settled (covered end bytes shown after reaches is) (covered end' bytes' shown' after' reaches' is') =
+    let same = shown_one pfs obj size (x / BLOCK_BYTES) end end' bytes bytes' C settled shown shown' in
     let e : end ≡ end' = same.0 in
     let f : bytes ≡ bytes' = same.1 in
     is ∙ rw (e, f) (sym is')
-byte_one pfs obj x a b C settled (covered end bytes first reaches is) (hole end' bytes' first' short is') =
-    let same = first_one pfs obj x end end' bytes bytes' C settled first first' in
-    absurd (omega (arith, same.0, ap length same.1))
-byte_one pfs obj x a b C settled (covered end bytes first reaches is) (past none is') = absurd (none end bytes first.there first.after)
-byte_one pfs obj x a b C settled (hole end bytes first short is) (covered end' bytes' first' reaches' is') =
-    let same = first_one pfs obj x end end' bytes bytes' C settled first first' in
-    absurd (omega (arith, same.0, ap length same.1))
-byte_one pfs obj x a b C settled (hole end bytes first short is) (hole end' bytes' first' short' is') = is ∙ sym is'
-byte_one pfs obj x a b C settled (hole end bytes first short is) (past none is') = is ∙ sym is'
-byte_one pfs obj x a b C settled (past none is) (covered end' bytes' first' reaches' is') = absurd (none end' bytes' first'.there first'.after)
-byte_one pfs obj x a b C settled (past none is) (hole end' bytes' first' short' is') = is ∙ sym is'
-byte_one pfs obj x a b C settled (past none is) (past none' is') = is ∙ sym is'
+byte_one pfs obj size x a b C settled (covered end bytes shown after reaches is) (beside end' bytes' shown' apart is') =
+    absurd (over_or_beside x end end' bytes bytes'
+    (shown_one pfs obj size (x / BLOCK_BYTES) end end' bytes bytes' C settled shown shown') after reaches apart)
+byte_one pfs obj size x a b C settled (covered end bytes shown after reaches is) (empty nothing is') =
+    absurd (nothing end bytes shown.there shown.place)
+byte_one pfs obj size x a b C settled (beside end bytes shown apart is) (covered end' bytes' shown' after reaches is') =
+    absurd (over_or_beside x end' end bytes' bytes
+    (shown_one pfs obj size (x / BLOCK_BYTES) end' end bytes' bytes C settled shown' shown) after reaches apart)
+byte_one pfs obj size x a b C settled (beside end bytes shown apart is) (beside end' bytes' shown' apart' is') = is ∙ sym is'
+byte_one pfs obj size x a b C settled (beside end bytes shown apart is) (empty nothing is') = is ∙ sym is'
+byte_one pfs obj size x a b C settled (empty nothing is) (covered end' bytes' shown' after reaches is') =
+    absurd (nothing end' bytes' shown'.there shown'.place)
+byte_one pfs obj size x a b C settled (empty nothing is) (beside end' bytes' shown' apart is') = is ∙ sym is'
+byte_one pfs obj size x a b C settled (empty nothing is) (empty nothing' is') = is ∙ sym is'
 
 pub bytes_one : (pfs obj size : ℕ) (a b : List ℕ) (C : Content) → IsSettled C → AreFileBytes C pfs obj size a
     → AreFileBytes C pfs obj size b → a ≡ b
 bytes_one pfs obj size a b C settled is is' =
     same_number_lists a b (is.sized ∙ sym is'.sized)
     (λ k below. let k_below : k < size = omega (arith, below, is.sized) in
-    byte_one pfs obj k (slice_index a k) (slice_index b k) C settled (is.each k k_below) (is'.each k k_below))
+    byte_one pfs obj size k (slice_index a k) (slice_index b k) C settled (is.each k k_below) (is'.each k k_below))
 
 target_one : (pfs obj : ℕ) (a b : List ℕ) (C : Content) → IsSettled C → IsTargetOf C pfs obj a → IsTargetOf C pfs obj b → a ≡ b
 target_one pfs obj a b C settled (held there) (held there') = settled (target_subject pfs obj) a b there there'

@@ -1,5 +1,5 @@
--- Which element is the newest of several, and which bytes end first.
-use Rattle.std.proofs.Common.{◌≡◌, ℕ, ◌+◌, ◌-◌, ◌<◌, ◌≤◌, true, false, List, [], ◌∷◌, ◌++◌, length, get_or, slice_index, take, refl, sym, ap, subst}
+-- Which element is the newest of several, and which bytes of a block show.
+use Rattle.std.proofs.Common.{◌≡◌, ℕ, ◌+◌, ◌-◌, ◌/◌, ◌<◌, ◌≤◌, true, false, List, [], ◌∷◌, ◌++◌, length, get_or, slice_index, take, refl, sym, ap, subst}
 use Rattle.std.proofs.Common.{◌∙◌, inl, inr, arith, length-append}
 use Rattle.std.specs.Prelude.{◌⊎◌, Option, None, Some}
 use Rattle.std.specs.List.{Contains, list_any}
@@ -12,6 +12,7 @@ use Rattle.std.proofs.lemmas.List.Elements.{Contains-append_cases, Contains-appe
 use Rattle.hm_types.specs.Elements.{FullElement, Key, key_cmp}
 use Rattle.hm_key.specs.Counts.{Content, Counts, IsSeen, Subject, bytes_subject, inode_subject, subject_of}
 use Rattle.hm_types.specs.declared.id.Obj.{Obj}
+use Rattle.hm_types.specs.declared.limits.TheConstants.{BLOCK_BYTES}
 use Rattle.hm_types.specs.declared.object.Kind.{Kind}
 use Rattle.hm_types.specs.declared.object.Content.{Content as Held}
 use Rattle.hm_records.specs.declared.inode.Inode.{Inode}
@@ -19,9 +20,9 @@ use Rattle.hm_records.specs.Inode.{IsInode, inode_bytes}
 use Rattle.hm_key.specs.Versions.{HaveOwnKeys}
 use Rattle.hm_records.specs.Changes.{CountsNothing}
 use Rattle.hm_records.specs.Laws.{made_of}
-use Rattle.hm_records.specs.View.{AreFileBytes, IsFileByte, covered, hole, past, IsFirstAfter, IsObject}
-use Rattle.hm_records.specs.PlainView.{is_at_key, HasBytes, IsEarlierEnd, IsHeldAs, IsLess, IsObjectAt, IsLeastEnd, IsNewerVersion, IsNewestVersionOf}
-use Rattle.hm_records.specs.PlainView.{IsNewestSince, IsNextEnd, IsUnmade}
+use Rattle.hm_records.specs.View.{AreFileBytes, EndsIn, HasNoBytes, IsFileByte, IsObject, IsShown, ShowsRather, beside, covered, none as empty}
+use Rattle.hm_records.specs.PlainView.{is_at_key, AreFirstBytes, IsBestEnd, IsBetterEnd, IsHeldAs, IsNewerVersion, IsNewestSince, IsNewestVersionOf}
+use Rattle.hm_records.specs.PlainView.{IsObjectAt, IsOfBlock, IsShownEnd, IsUnmade, ShowsFirst}
 use Rattle.hm_records.proofs.CountsLemmas.{same_key, settled}
 use Rattle.hm_records.proofs.MadeLemmas.{object_made}
 use Rattle.hm_records.proofs.MemberLemmas.{has_cases, has_head, has_none}
@@ -141,119 +142,191 @@ newest_unseen es t s e own is unseen bytes counts =
 pub unmade_none : (es : List FullElement) (t : ℕ) (s : Subject) → IsUnmade es t s → CountsNothing (Counts es t) s
 unmade_none es t s none bytes counts = none counts.element counts.there counts.about counts.seen.0
 
--- ---- the bytes that end first
+-- ---- the bytes that show
 
-module _ (C : Content) (es : List FullElement) (i pfs obj place : ℕ) (x : FullElement) (below : i < length es) (is : x ≡ get_or es i x) where
-  pub end_taken : (next : Option ℕ) → IsNextEnd C pfs obj place (take i es) next → IsEarlierEnd C pfs obj place next x
-      → IsNextEnd C pfs obj place (take (i + 1) es) (Some x.key.key)
-  end_taken None held earlier = record {
-    there = earlier.there;
-    after = earlier.after;
-    least = λ e has about there after. elim (more_cases es i x below is e has) [
-      | inl old ↦ absurd (held e old about there after)
-      | inr same ↦ omega (arith, ap (λ (z : FullElement). z.key.key) same)
+pub rather_or_not : (size a b : ℕ) → ShowsRather size a b ⊎ (ShowsRather size a b → ⊥)
+rather_or_not size a b = elim (cases_lt size a) [
+  | inl past ↦ elim (cases_lt b a) [
+    | inl less ↦ inr (λ rather. omega (arith, past, less, rather))
+    | inr le ↦ inl (inr (past, le))
+  ]
+  | inr within ↦ elim (cases_lt a b) [
+    | inr le ↦ inl (inl (within, inl le))
+    | inl less ↦ elim (cases_lt size b) [
+      | inl past ↦ inl (inl (within, inr past))
+      | inr both ↦ inr (λ rather. omega (arith, within, less, both, rather))
+    ]
+  ]
+]
+
+pub rather_itself : (size a b : ℕ) → a ≡ b → ShowsRather size a b
+rather_itself size a b same = elim (cases_lt size a) [
+  | inl past ↦ inr (past, omega (arith, same))
+  | inr within ↦ inl (within, inl (omega (arith, same)))
+]
+
+-- of two places the one shows rather or the other
+pub rather_back : (size a b : ℕ) → (ShowsRather size a b → ⊥) → ShowsRather size b a
+rather_back size a b not = elim (rather_or_not size b a) [
+  | inl rather ↦ rather
+  | inr neither ↦ elim (cases_lt size a) [
+    | inl past ↦ elim (cases_lt b a) [
+      | inr le ↦ absurd (not (inr (past, le)))
+      | inl less ↦ elim (cases_lt size b) [
+        | inl both ↦ inr (both, omega (arith, less))
+        | inr within ↦ inl (within, inr past)
+      ]
+    ]
+    | inr within ↦ elim (cases_lt size b) [
+      | inl past ↦ absurd (not (inl (within, inr past)))
+      | inr both ↦ elim (cases_lt a b) [
+        | inr le ↦ absurd (not (inl (within, inl le)))
+        | inl less ↦ inl (both, inl (omega (arith, less)))
+      ]
+    ]
+  ]
+]
+
+pub rather_on : (size a b c : ℕ) → ShowsRather size a b → ShowsRather size b c → ShowsRather size a c
+rather_on size a b c first second = elim (rather_or_not size a c) [
+  | inl rather ↦ rather
+  | inr not ↦ elim (cases_lt size a) [
+    | inl past ↦ absurd (not (inr (past, omega (arith, past, first, second))))
+    | inr within ↦ elim (cases_lt size c) [
+      | inl out ↦ inl (within, inr out)
+      | inr both ↦ inl (within, inl (omega (arith, within, both, first, second)))
+    ]
+  ]
+]
+
+module _ (C : Content) (es : List FullElement) (i pfs obj size block : ℕ) (x : FullElement) (below : i < length es) (is : x ≡ get_or es i x) where
+  itself : (e : FullElement) → e ≡ x → ShowsRather size x.key.key e.key.key
+  itself e same = rather_itself size x.key.key e.key.key (ap (λ (z : FullElement). z.key.key) (sym same))
+
+  pub end_taken : (best : Option ℕ) → IsShownEnd C pfs obj size block (take i es) best → IsBetterEnd C pfs obj size block best x
+      → IsShownEnd C pfs obj size block (take (i + 1) es) (Some x.key.key)
+  end_taken None held better = record {
+    there = better.there;
+    place = better.place;
+    rather = λ e has of. elim (more_cases es i x below is e has) [
+      | inl old ↦ absurd (held e old of)
+      | inr same ↦ itself e same
     ];
   }
-  end_taken (Some end) held earlier = record {
-    there = earlier.there;
-    after = earlier.after;
-    least = λ e has about there after. elim (more_cases es i x below is e has) [
-      | inl old ↦ omega (arith, held.least e old about there after, earlier.before)
-      | inr same ↦ omega (arith, ap (λ (z : FullElement). z.key.key) same)
+  end_taken (Some end) held better = record {
+    there = better.there;
+    place = better.place;
+    rather = λ e has of. elim (more_cases es i x below is e has) [
+      | inl old ↦ rather_on size x.key.key end e.key.key better.rather (held.rather e old of)
+      | inr same ↦ itself e same
     ];
   }
 
-  -- the element, as one that ends before another end
-  earlier_is : (next : Option ℕ) (e : FullElement) → e ≡ x → subject_of e.key ≡ bytes_subject pfs obj e.key.key → HasBytes C pfs obj e.key.key
-      → place < e.key.key → IsLess e.key.key next → IsEarlierEnd C pfs obj place next x
-  earlier_is next e same about there after before = subst (λ (z : FullElement). IsEarlierEnd C pfs obj place next z) same (record {
-    after = after;
-    about = about;
-    before = before;
-    there = there;
-  })
+  -- the element, as one that shows rather than the best ones so far
+  better_is : (best : Option ℕ) (e : FullElement) → e ≡ x → IsOfBlock C pfs obj block e → ShowsFirst size x.key.key best
+      → IsBetterEnd C pfs obj size block best x
+  better_is best e same of rather =
+      let of_x : IsOfBlock C pfs obj block x = subst (λ (z : FullElement). IsOfBlock C pfs obj block z) same of in
+      record { place = of_x.place; about = of_x.about; rather = rather; there = of_x.there }
 
-  pub end_passed : (next : Option ℕ) → IsNextEnd C pfs obj place (take i es) next → (IsEarlierEnd C pfs obj place next x → ⊥)
-      → IsNextEnd C pfs obj place (take (i + 1) es) next
-  end_passed None held not = λ e has about there after. elim (more_cases es i x below is e has) [
-    | inl old ↦ held e old about there after
-    | inr same ↦ not (earlier_is None e same about there after tt)
+  pub end_passed : (best : Option ℕ) → IsShownEnd C pfs obj size block (take i es) best → (IsBetterEnd C pfs obj size block best x → ⊥)
+      → IsShownEnd C pfs obj size block (take (i + 1) es) best
+  end_passed None held not = λ e has of. elim (more_cases es i x below is e has) [
+    | inl old ↦ held e old of
+    | inr same ↦ not (better_is None e same of tt)
   ]
   end_passed (Some end) held not = record {
     there = held.there;
-    after = held.after;
-    least = λ e has about there after. elim (more_cases es i x below is e has) [
-      | inl old ↦ held.least e old about there after
-      | inr same ↦ elim (cases_lt e.key.key end) [
-        | inl less ↦ absurd (not (earlier_is (Some end) e same about there after less))
-        | inr le ↦ le
-      ]
+    place = held.place;
+    rather = λ e has of. elim (more_cases es i x below is e has) [
+      | inl old ↦ held.rather e old of
+      | inr same ↦
+          let worse : ShowsRather size end x.key.key =
+          rather_back size x.key.key end (λ rather. not (better_is (Some end) e same of rather)) in
+          subst (λ (z : FullElement). ShowsRather size end z.key.key) (sym same) worse
     ];
   }
 
 -- ---- bytes
 
-module _ (es : List FullElement) (t pfs obj place : ℕ) where
-  -- what counts there is an element's
-  counted_end : (P : Type 0) (other : ℕ) (bytes : List ℕ) → Counts es t (bytes_subject pfs obj other) bytes
-      → ((e : FullElement) → Contains es e → subject_of e.key ≡ bytes_subject pfs obj e.key.key → HasBytes (Counts es t) pfs obj e.key.key
-      → e.key.key ≡ other → P) → P
-  counted_end P other bytes counts on =
+module _ (es : List FullElement) (t pfs obj size : ℕ) where
+  -- what counts in a block is an element's
+  element_of : (P : Type 0) (block other : ℕ) (bytes : List ℕ) → Counts es t (bytes_subject pfs obj other) bytes → EndsIn block other
+      → ((e : FullElement) → Contains es e → IsOfBlock (Counts es t) pfs obj block e → e.key.key ≡ other → P) → P
+  element_of P block other bytes counts place on =
       let key : counts.element.key.key ≡ other = ap (λ (s : Subject). s.key) counts.about in
-      on counts.element counts.there (counts.about ∙ ap (bytes_subject pfs obj) (sym key))
-      (bytes, subst (λ (n : ℕ). Counts es t (bytes_subject pfs obj n) bytes) (sym key) counts) key
+      on counts.element counts.there
+      (record {
+        about = counts.about ∙ ap (bytes_subject pfs obj) (sym key);
+        place = subst (λ (n : ℕ). EndsIn block n) (sym key) place;
+        there = (bytes, subst (λ (n : ℕ). Counts es t (bytes_subject pfs obj n) bytes) (sym key) counts);
+      })
+      key
 
-  pub first_of : (end : ℕ) (bytes : List ℕ) → IsLeastEnd (Counts es t) pfs obj place es end
-      → Counts es t (bytes_subject pfs obj end) bytes → IsFirstAfter (Counts es t) pfs obj place end bytes
-  first_of end bytes least counts = record {
+  pub shown_of : (block end : ℕ) (bytes : List ℕ) → IsBestEnd (Counts es t) pfs obj size block es end
+      → Counts es t (bytes_subject pfs obj end) bytes → IsShown (Counts es t) pfs obj size block end bytes
+  shown_of block end bytes best counts = record {
     there = counts;
-    after = least.after;
-    first = λ other others there after.
-        counted_end (end ≤ other) other others there (λ e has about there' key.
-        omega (arith, key, least.least e has about there' (omega (arith, after, key))));
+    place = best.place;
+    rather = λ other others there place.
+        element_of (ShowsRather size end other) block other others there place
+        (λ e has of key. subst (λ (n : ℕ). ShowsRather size end n) key (best.rather e has of));
   }
 
-  pub byte_covered : (end : ℕ) (bytes : List ℕ) → IsLeastEnd (Counts es t) pfs obj place es end
-      → Counts es t (bytes_subject pfs obj end) bytes → end - place ≤ length bytes
-      → IsFileByte (Counts es t) pfs obj place (slice_index bytes (length bytes - (end - place)))
-  byte_covered end bytes least counts enough =
-      let after = least.after in
-      let same : length bytes - (end - place) ≡ place + length bytes - end = omega (arith, after, enough) in
-      covered end bytes (first_of end bytes least counts) (omega (arith, after, enough)) (ap (slice_index bytes) same)
+  -- where no end shows in a block, nothing counts there
+  pub none_in_block : (block : ℕ) → IsShownEnd (Counts es t) pfs obj size block es None → HasNoBytes (Counts es t) pfs obj block
+  none_in_block block nothing end bytes there place =
+      element_of ⊥ block end bytes there place (λ e has of key. nothing e has of)
 
-  pub byte_in_hole : (end : ℕ) (bytes : List ℕ) → IsLeastEnd (Counts es t) pfs obj place es end
-      → Counts es t (bytes_subject pfs obj end) bytes → length bytes < end - place → IsFileByte (Counts es t) pfs obj place 0
-  byte_in_hole end bytes least counts short = hole end bytes (first_of end bytes least counts) (omega (arith, short)) refl
+  -- where bytes show, some count
+  pub end_counts : (block end : ℕ) → IsBestEnd (Counts es t) pfs obj size block es end → CountsNothing (Counts es t) (bytes_subject pfs obj end) → ⊥
+  end_counts block end best nothing = nothing best.there.0 best.there.1
 
-  -- where there is no next end, nothing counts that ends after the place
-  pub none_after : IsNextEnd (Counts es t) pfs obj place es None → (end : ℕ) (bytes : List ℕ) → Counts es t (bytes_subject pfs obj end) bytes
-      → place < end → ⊥
-  none_after none end bytes there after =
-      counted_end ⊥ end bytes there (λ e has about there' key. none e has about there' (omega (arith, after, key)))
+  module _ (place : ℕ) where
+    pub byte_in_none : IsShownEnd (Counts es t) pfs obj size (place / BLOCK_BYTES) es None → IsFileByte (Counts es t) pfs obj size place 0
+    byte_in_none nothing = empty (none_in_block (place / BLOCK_BYTES) nothing) refl
 
-  pub byte_past : IsNextEnd (Counts es t) pfs obj place es None → IsFileByte (Counts es t) pfs obj place 0
-  byte_past none = past (none_after none) refl
+    module _ (end : ℕ) (bytes : List ℕ) (best : IsBestEnd (Counts es t) pfs obj size (place / BLOCK_BYTES) es end)
+        (counts : Counts es t (bytes_subject pfs obj end) bytes) where
+      shown : IsShown (Counts es t) pfs obj size (place / BLOCK_BYTES) end bytes
+      shown = shown_of (place / BLOCK_BYTES) end bytes best counts
 
-  -- where bytes end, some count
-  pub end_counts : (end : ℕ) → IsLeastEnd (Counts es t) pfs obj place es end → CountsNothing (Counts es t) (bytes_subject pfs obj end) → ⊥
-  end_counts end least none = none least.there.0 least.there.1
+      pub byte_covered : place < end → end - place ≤ length bytes
+          → IsFileByte (Counts es t) pfs obj size place (slice_index bytes (length bytes - (end - place)))
+      byte_covered after enough =
+          let same : length bytes - (end - place) ≡ place + length bytes - end = omega (arith, after, enough) in
+          covered end bytes shown after (omega (arith, after, enough)) (ap (slice_index bytes) same)
 
--- one byte more
-pub bytes_more : (es : List FullElement) (t pfs obj n b : ℕ) (xs : List ℕ) → AreFileBytes (Counts es t) pfs obj n xs
-    → IsFileByte (Counts es t) pfs obj n b → AreFileBytes (Counts es t) pfs obj (n + 1) (xs ++ b ∷ [])
-bytes_more es t pfs obj n b xs are byte = record {
+      pub byte_before : length bytes < end - place → IsFileByte (Counts es t) pfs obj size place 0
+      byte_before short = beside end bytes shown (inr (omega (arith, short))) refl
+
+      pub byte_behind : end ≤ place → IsFileByte (Counts es t) pfs obj size place 0
+      byte_behind ended = beside end bytes shown (inl ended) refl
+
+-- no byte yet, and one byte more
+pub bytes_begin : (es : List FullElement) (t pfs obj size : ℕ) → AreFirstBytes (Counts es t) pfs obj size 0 []
+bytes_begin es t pfs obj size = record { sized = refl; each = λ x below. absurd (omega (arith, below)) }
+
+pub bytes_more : (es : List FullElement) (t pfs obj size n b : ℕ) (xs : List ℕ) → AreFirstBytes (Counts es t) pfs obj size n xs
+    → IsFileByte (Counts es t) pfs obj size n b → AreFirstBytes (Counts es t) pfs obj size (n + 1) (xs ++ b ∷ [])
+bytes_more es t pfs obj size n b xs are byte = record {
   sized = omega (arith, are.sized, length-append xs (b ∷ []));
   each = λ x below. elim (cases_lt x n) [
     | inl less ↦
         let same : slice_index (xs ++ b ∷ []) x ≡ slice_index xs x = get_or_append_left xs (b ∷ []) 0 x (omega (arith, less, are.sized)) in
-        subst (λ (k : ℕ). IsFileByte (Counts es t) pfs obj x k) (sym same) (are.each x less)
+        subst (λ (k : ℕ). IsFileByte (Counts es t) pfs obj size x k) (sym same) (are.each x less)
     | inr le ↦
         let here : x ≡ n = omega (arith, le, below) in
         let same : slice_index (xs ++ b ∷ []) n ≡ b = get_or_push xs b 0 n are.sized in
-        subst (λ (k : ℕ). IsFileByte (Counts es t) pfs obj k (slice_index (xs ++ b ∷ []) k)) (sym here)
-        (subst (λ (k : ℕ). IsFileByte (Counts es t) pfs obj n k) (sym same) byte)
+        subst (λ (k : ℕ). IsFileByte (Counts es t) pfs obj size k (slice_index (xs ++ b ∷ []) k)) (sym here)
+        (subst (λ (k : ℕ). IsFileByte (Counts es t) pfs obj size n k) (sym same) byte)
   ];
 }
+
+-- as many as the file has are its bytes
+pub bytes_all : (es : List FullElement) (t pfs obj size n : ℕ) (xs : List ℕ) → n ≡ size → AreFirstBytes (Counts es t) pfs obj size n xs
+    → AreFileBytes (Counts es t) pfs obj size xs
+bytes_all es t pfs obj size n xs done are = record { sized = are.sized ∙ done; each = λ x below. are.each x (omega (arith, below, done)) }
 
 -- ---- objects
 

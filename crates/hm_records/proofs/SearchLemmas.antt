@@ -1,15 +1,19 @@
 -- What a search through elements finds, as a value with its fact. No two elements need have different keys.
-use Rattle.std.proofs.Common.{◌≡◌, ℕ, zero, suc, ◌+◌, ◌<◌, ◌≤◌, Bool, true, false, List, [], ◌∷◌, length, get_or, take, refl, subst, inl, inr, arith}
+use Rattle.std.proofs.Common.{◌≡◌, ℕ, zero, suc, ◌+◌, ◌-◌, ◌*◌, ◌/◌, ◌<◌, ◌≤◌, Bool, true, false, List, [], ◌∷◌, ◌++◌, length, get_or, slice_index, take, refl}
+use Rattle.std.proofs.Common.{subst, inl, inr, arith}
 use Rattle.std.specs.List.{Contains}
 use Rattle.std.specs.Prelude.{◌⊎◌, ◌↔◌, IsTrue, Option, None, Some}
 use Rattle.std.proofs.lemmas.Bool.{cases_eq, cases_lt, false≢true}
 use Rattle.std.proofs.lemmas.List.{take_all}
 use Rattle.hm_types.specs.Elements.{FullElement}
 use Rattle.hm_key.specs.Counts.{Counts, IsSeen, Subject, bytes_subject, subject_of}
-use Rattle.hm_records.specs.View.{IsFirstAfter}
-use Rattle.hm_records.specs.PlainView.{HasSome, IsAtLeast, IsCounted, IsEarlierEnd, IsLess, IsNewerVersion, IsNewest, IsNewestSince, IsNextEnd}
+use Rattle.hm_types.specs.declared.limits.TheConstants.{BLOCK_BYTES}
+use Rattle.hm_records.specs.View.{AreFileBytes, EndsIn, HasNoBytes, IsFileByte, IsShown, beside, covered, none as empty}
+use Rattle.hm_records.specs.PlainView.{AreFirstBytes, HasSome, IsAtLeast, IsBetterEnd, IsCounted, IsLess, IsNewerVersion, IsNewest, IsNewestSince}
+use Rattle.hm_records.specs.PlainView.{IsShownEnd, ShowsFirst}
 use Rattle.hm_records.proofs.MemberLemmas.{has_cases, has_head, has_none, has_tail}
-use Rattle.hm_records.proofs.PlainLemmas.{end_passed, end_taken, first_of, newest_none, newest_passed, newest_taken, none_after, unmade_none}
+use Rattle.hm_records.proofs.PlainLemmas.{bytes_all, bytes_begin, bytes_more, end_passed, end_taken, newest_none, newest_passed, newest_taken, none_in_block}
+use Rattle.hm_records.proofs.PlainLemmas.{rather_or_not, shown_of, unmade_none}
 use Rattle.hm_records.proofs.SubjectLemmas.{same_subject}
 
 -- ---- a walk through a list
@@ -167,40 +171,77 @@ module _ (es : List FullElement) (t : ℕ) (s : Subject) where
     by_counted None none = inr (λ has. none has.0 has.1)
     by_counted (Some bytes) counts = inl (bytes, counts)
 
--- ---- the bytes that end first
+-- ---- the bytes that show in a block
 
-module _ (es : List FullElement) (t pfs obj place : ℕ) where
-  earlier_or_not : (next : Option ℕ) (e : FullElement) → Decided (IsEarlierEnd (Counts es t) pfs obj place next e)
-  earlier_or_not next e = elim (cases_lt place e.key.key) [
-    | inr before ↦ inr (λ earlier. absurd (omega (arith, before, earlier.after)))
-    | inl after ↦ elim (same_subject (subject_of e.key) (bytes_subject pfs obj e.key.key)) [
-      | inr other ↦ inr (λ earlier. other earlier.about)
+ends_in_or_not : (block end : ℕ) → Decided (EndsIn block end)
+ends_in_or_not block end = elim (cases_lt (block * BLOCK_BYTES) end) [
+  | inr before ↦ inr (λ ends. absurd (omega (arith, before, ends.from)))
+  | inl from ↦ elim (cases_lt (block * BLOCK_BYTES + BLOCK_BYTES) end) [
+    | inl after ↦ inr (λ ends. absurd (omega (arith, after, ends.to)))
+    | inr to ↦ inl (record { from = from; to = to })
+  ]
+]
+
+shows_first_or_not : (size end : ℕ) (best : Option ℕ) → Decided (ShowsFirst size end best)
+shows_first_or_not size end None = inl tt
+shows_first_or_not size end (Some other) = rather_or_not size end other
+
+module _ (es : List FullElement) (t pfs obj : ℕ) where
+  better_or_not : (size block : ℕ) (best : Option ℕ) (e : FullElement) → Decided (IsBetterEnd (Counts es t) pfs obj size block best e)
+  better_or_not size block best e = elim (ends_in_or_not block e.key.key) [
+    | inr elsewhere ↦ inr (λ better. elsewhere better.place)
+    | inl place ↦ elim (same_subject (subject_of e.key) (bytes_subject pfs obj e.key.key)) [
+      | inr other ↦ inr (λ better. other better.about)
       | inl about ↦ elim (some_or_not es t (bytes_subject pfs obj e.key.key)) [
-        | inr none ↦ inr (λ earlier. none earlier.there)
-        | inl there ↦ elim (less_or_not e.key.key next) [
-          | inr later ↦ inr (λ earlier. later earlier.before)
-          | inl before ↦ inl (record { after = after; about = about; before = before; there = there })
+        | inr none ↦ inr (λ better. none better.there)
+        | inl there ↦ elim (shows_first_or_not size e.key.key best) [
+          | inr worse ↦ inr (λ better. worse better.rather)
+          | inl rather ↦ inl (record { place = place; about = about; rather = rather; there = there })
         ]
       ]
     ]
   ]
 
-  -- where the first bytes that end after a place end, if any do
-  pub next_end_of : (next : Option ℕ) × IsNextEnd (Counts es t) pfs obj place es next
-  next_end_of =
-      walked es (λ (xs : List FullElement). (next : Option ℕ) × IsNextEnd (Counts es t) pfs obj place xs next)
-      (None, λ e has about there after. has_none e has)
-      (λ i x below is so_far. elim (earlier_or_not so_far.0 x) [
-        | inl earlier ↦ (Some x.key.key, end_taken (Counts es t) es i pfs obj place x below is so_far.0 so_far.1 earlier)
-        | inr not ↦ (so_far.0, end_passed (Counts es t) es i pfs obj place x below is so_far.0 so_far.1 not)
+  -- where the bytes that show in a block of a file of a size end, if any count there
+  pub shown_end_of : (size block : ℕ) → (best : Option ℕ) × IsShownEnd (Counts es t) pfs obj size block es best
+  shown_end_of size block =
+      walked es (λ (xs : List FullElement). (best : Option ℕ) × IsShownEnd (Counts es t) pfs obj size block xs best)
+      (None, λ e has of. has_none e has)
+      (λ i x below is so_far. elim (better_or_not size block so_far.0 x) [
+        | inl better ↦ (Some x.key.key, end_taken (Counts es t) es i pfs obj size block x below is so_far.0 so_far.1 better)
+        | inr not ↦ (so_far.0, end_passed (Counts es t) es i pfs obj size block x below is so_far.0 so_far.1 not)
       ])
 
-  -- the bytes that count and end first after a place, if any do
-  pub first_or_none : ((end : ℕ) (bytes : List ℕ) → Counts es t (bytes_subject pfs obj end) bytes → place < end → ⊥)
-      ⊎ ((end : ℕ) × (bytes : List ℕ) × IsFirstAfter (Counts es t) pfs obj place end bytes)
-  first_or_none = by_end next_end_of.0 next_end_of.1 where
-    by_end : (next : Option ℕ) → IsNextEnd (Counts es t) pfs obj place es next
-        → ((end : ℕ) (bytes : List ℕ) → Counts es t (bytes_subject pfs obj end) bytes → place < end → ⊥)
-        ⊎ ((end : ℕ) × (bytes : List ℕ) × IsFirstAfter (Counts es t) pfs obj place end bytes)
-    by_end None none = inl (none_after es t pfs obj place none)
-    by_end (Some end) least = inr (end, least.there.0, first_of es t pfs obj place end least.there.0 least least.there.1)
+  -- the bytes that show in a block of a file of a size, if any count there
+  pub shown_or_none : (size block : ℕ) → HasNoBytes (Counts es t) pfs obj block
+      ⊎ ((end : ℕ) × (bytes : List ℕ) × IsShown (Counts es t) pfs obj size block end bytes)
+  shown_or_none size block = by_end (shown_end_of size block).0 (shown_end_of size block).1 where
+    by_end : (best : Option ℕ) → IsShownEnd (Counts es t) pfs obj size block es best → HasNoBytes (Counts es t) pfs obj block
+        ⊎ ((end : ℕ) × (bytes : List ℕ) × IsShown (Counts es t) pfs obj size block end bytes)
+    by_end None none = inl (none_in_block es t pfs obj size block none)
+    by_end (Some end) best = inr (end, best.there.0, shown_of es t pfs obj size block end best.there.0 best best.there.1)
+
+  byte_of : (size place : ℕ) → (byte : ℕ) × IsFileByte (Counts es t) pfs obj size place byte
+  byte_of size place = elim (shown_or_none size (place / BLOCK_BYTES)) [
+    | inl nothing ↦ (0, empty nothing refl)
+    | inr (end, bytes, shown) ↦ elim (cases_lt place end) [
+      | inr ended ↦ (0, beside end bytes shown (inl ended) refl)
+      | inl after ↦ elim (cases_lt (place + length bytes) end) [
+        | inl short ↦ (0, beside end bytes shown (inr short) refl)
+        | inr enough ↦ (slice_index bytes (place + length bytes - end), covered end bytes shown after enough refl)
+      ]
+    ]
+  ]
+
+  first_bytes_of : (size n : ℕ) → (bytes : List ℕ) × AreFirstBytes (Counts es t) pfs obj size n bytes
+  first_bytes_of size zero = ([], bytes_begin es t pfs obj size)
+  first_bytes_of size (suc n) =
+      let (bytes, are) = first_bytes_of size n in
+      let (byte, is) = byte_of size n in
+      let next : n + 1 ≡ suc n = omega arith in
+      subst (λ (m : ℕ). (bytes : List ℕ) × AreFirstBytes (Counts es t) pfs obj size m bytes) next
+      (bytes ++ byte ∷ [], bytes_more es t pfs obj size n byte bytes are is)
+
+  -- the bytes of a file of a size
+  pub bytes_of : (size : ℕ) → (bytes : List ℕ) × AreFileBytes (Counts es t) pfs obj size bytes
+  bytes_of size = let (bytes, are) = first_bytes_of size size in (bytes, bytes_all es t pfs obj size size bytes refl are)

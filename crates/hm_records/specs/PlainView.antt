@@ -1,6 +1,6 @@
 -- What the parts of the plain program answer.
 use Rattle.std.specs.Ordering.{is_eq}
-use Rattle.std.specs.Prelude.{Bool, ◌≡◌, ◌≢◌, ℕ, ◌<◌, ◌≤◌, List, Option, None, Some, option_map}
+use Rattle.std.specs.Prelude.{Bool, ◌≡◌, ◌≢◌, ℕ, ◌<◌, ◌≤◌, List, length, slice_index, Option, None, Some, option_map}
 use Rattle.std.specs.List.{Contains}
 use Rattle.hm_types.specs.Elements.{FullElement, Key, key_cmp}
 use Rattle.hm_types.specs.declared.object.Object.{Object}
@@ -16,7 +16,7 @@ use Rattle.hm_types.specs.Tree.{FileTree, is_object_before, is_triple_before}
 use Rattle.hm_records.specs.declared.entry.DirEntry.{DirEntry}
 use Rattle.hm_records.specs.Changes.{CountsNothing, LacksName}
 use Rattle.hm_records.specs.Laws.{triple_of}
-use Rattle.hm_records.specs.View.{AreInOrder, HasEntry, IsHeld, IsObject, IsTriple, kind_number}
+use Rattle.hm_records.specs.View.{AreInOrder, EndsIn, HasEntry, IsFileByte, IsHeld, IsObject, IsTriple, ShowsRather, kind_number}
 
 -- an element with these bytes
 abbrev pub full_of : Base → List ℕ → FullElement
@@ -64,18 +64,27 @@ HasSome counts s = (bytes : List ℕ) × counts s bytes
 abbrev pub HasBytes : Content → ℕ → ℕ → ℕ → Type 0
 HasBytes counts pfs obj end = HasSome counts (bytes_subject pfs obj end)
 
--- of the bytes of a file that some elements are about and that count, the first that end after byte `x` end at `end`
-pub record IsLeastEnd (counts : Content) (pfs obj x : ℕ) (es : List FullElement) (end : ℕ) : Type 0 where
-  pub there : HasBytes counts pfs obj end
-  pub after : x < end
-  pub least : (e : FullElement) → Contains es e → subject_of e.key ≡ bytes_subject pfs obj e.key.key → HasBytes counts pfs obj e.key.key
-      → x < e.key.key → end ≤ e.key.key
+-- an element is about bytes of a file that count, and they end in a block
+pub record IsOfBlock (counts : Content) (pfs obj block : ℕ) (e : FullElement) : Type 0 where
+  pub about : subject_of e.key ≡ bytes_subject pfs obj e.key.key
+  pub place : EndsIn block e.key.key
+  pub there : HasBytes counts pfs obj e.key.key
 
-abbrev pub IsNextEnd : Content → ℕ → ℕ → ℕ → List FullElement → Option ℕ → Type 0
-IsNextEnd counts pfs obj x es None =
-    (e : FullElement) → Contains es e → subject_of e.key ≡ bytes_subject pfs obj e.key.key → HasBytes counts pfs obj e.key.key
-    → x < e.key.key → ⊥
-IsNextEnd counts pfs obj x es (Some end) = IsLeastEnd counts pfs obj x es end
+-- of the bytes of a file of a size that some elements are about, that count and that end in a block, those that show end at `end`
+pub record IsBestEnd (counts : Content) (pfs obj size block : ℕ) (es : List FullElement) (end : ℕ) : Type 0 where
+  pub there : HasBytes counts pfs obj end
+  pub place : EndsIn block end
+  pub rather : (e : FullElement) → Contains es e → IsOfBlock counts pfs obj block e → ShowsRather size end e.key.key
+
+-- those that show end there, or there are none
+abbrev pub IsShownEnd : Content → ℕ → ℕ → ℕ → ℕ → List FullElement → Option ℕ → Type 0
+IsShownEnd counts pfs obj size block es None = (e : FullElement) → Contains es e → IsOfBlock counts pfs obj block e → ⊥
+IsShownEnd counts pfs obj size block es (Some end) = IsBestEnd counts pfs obj size block es end
+
+-- the first bytes of a file of a size, so many
+pub record AreFirstBytes (counts : Content) (pfs obj size n : ℕ) (bytes : List ℕ) : Type 0 where
+  pub sized : length bytes ≡ n
+  pub each : (x : ℕ) → x < n → IsFileByte counts pfs obj size x (slice_index bytes x)
 
 -- an object of this inode has this kind and holds this
 pub record IsHeldAs (counts : Content) (pfs obj : ℕ) (inode : Inode) (kind : Kind) (content : Held) : Type 0 where
@@ -98,11 +107,16 @@ pub record IsNewerVersion (t : ℕ) (s : Subject) (since : Option ℕ) (e : Full
   pub made : e.key.create ≤ t
   pub newer : IsAtLeast e.key.create since
 
--- an element is about bytes of a file that count, and that end after byte `x` and before an end
-pub record IsEarlierEnd (counts : Content) (pfs obj x : ℕ) (next : Option ℕ) (e : FullElement) : Type 0 where
-  pub after : x < e.key.key
+-- bytes that end at `end` show rather than bytes that end at another place, or there is no other
+abbrev pub ShowsFirst : ℕ → ℕ → Option ℕ → Type 0
+ShowsFirst size end None = Unit {0}
+ShowsFirst size end (Some other) = ShowsRather size end other
+
+-- an element is about bytes of a file that count and end in a block, and that show rather than the best ones so far
+pub record IsBetterEnd (counts : Content) (pfs obj size block : ℕ) (best : Option ℕ) (e : FullElement) : Type 0 where
+  pub place : EndsIn block e.key.key
   pub about : subject_of e.key ≡ bytes_subject pfs obj e.key.key
-  pub before : IsLess e.key.key next
+  pub rather : ShowsFirst size e.key.key best
   pub there : HasBytes counts pfs obj e.key.key
 
 -- ---- objects

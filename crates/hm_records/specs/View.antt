@@ -1,10 +1,11 @@
 -- The tree of a pseudo file system, by what counts. It is said as sets: which objects and which triples there are,
 -- and not how any of them is found.
-use Rattle.std.specs.Prelude.{◌≡◌, ◌↔◌, ℕ, ◌+◌, ◌-◌, ◌<◌, ◌≤◌, Bool, List, [], ◌∷◌, length, slice_index, IsTrue}
+use Rattle.std.specs.Prelude.{◌≡◌, ◌↔◌, ◌⊎◌, ℕ, ◌+◌, ◌-◌, ◌*◌, ◌/◌, ◌<◌, ◌≤◌, Bool, List, [], ◌∷◌, length, slice_index, IsTrue}
 use Rattle.std.specs.List.{All, Contains}
 use Rattle.hm_types.specs.Elements.{FullElement}
 use Rattle.hm_types.specs.Tree.{FileTree, is_object_before, is_triple_before}
 use Rattle.hm_types.specs.declared.id.Obj.{Obj}
+use Rattle.hm_types.specs.declared.limits.TheConstants.{BLOCK_BYTES}
 use Rattle.hm_types.specs.declared.object.Object.{Object}
 use Rattle.hm_types.specs.declared.object.Triple.{Triple}
 use Rattle.hm_types.specs.declared.object.Kind.{Kind}
@@ -24,26 +25,39 @@ kind_number File = FILE
 kind_number Softlink = SOFTLINK
 kind_number PfsLink = PFS_LINK
 
--- of the bytes of a file that count and end after byte `x`, the first ones end at `end`
-pub record IsFirstAfter (counts : Content) (pfs obj x end : ℕ) (bytes : List ℕ) : Type 0 where
-  pub there : counts (bytes_subject pfs obj end) bytes
-  pub after : x < end
-  pub first : (other : ℕ) (others : List ℕ) → counts (bytes_subject pfs obj other) others → x < other → end ≤ other
+-- an offset ends bytes of this block of a file
+pub record EndsIn (block end : ℕ) : Type 0 where
+  pub from : block * BLOCK_BYTES < end
+  pub to : end ≤ block * BLOCK_BYTES + BLOCK_BYTES
 
--- Byte `x` of a file: the first bytes that end after it have it, where they begin at it or before. Where they begin
--- later, and where there are none, it is zero.
-pub data IsFileByte (counts : Content) (pfs obj x byte : ℕ) : Type 0 where
-  covered : (end : ℕ) (bytes : List ℕ) → IsFirstAfter counts pfs obj x end bytes → end ≤ x + length bytes
-      → byte ≡ slice_index bytes (x + length bytes - end) → IsFileByte counts pfs obj x byte
-  hole : (end : ℕ) (bytes : List ℕ) → IsFirstAfter counts pfs obj x end bytes → x + length bytes < end → byte ≡ 0
-      → IsFileByte counts pfs obj x byte
-  past : ((end : ℕ) (bytes : List ℕ) → counts (bytes_subject pfs obj end) bytes → x < end → ⊥) → byte ≡ 0
-      → IsFileByte counts pfs obj x byte
+-- In a block of a file of a size, bytes that end at `a` show rather than bytes that end at `b`: of those that end within the
+-- file the last ones, and only where none do the first ones that end past it.
+abbrev pub ShowsRather : ℕ → ℕ → ℕ → Type 0
+ShowsRather size a b = ((a ≤ size) × ((b ≤ a) ⊎ (size < b))) ⊎ ((size < a) × (a ≤ b))
+
+-- of the bytes of a file of a size that count in a block, those that end at `end` are the ones that show
+pub record IsShown (counts : Content) (pfs obj size block end : ℕ) (bytes : List ℕ) : Type 0 where
+  pub there : counts (bytes_subject pfs obj end) bytes
+  pub place : EndsIn block end
+  pub rather : (other : ℕ) (others : List ℕ) → counts (bytes_subject pfs obj other) others → EndsIn block other → ShowsRather size end other
+
+-- none of the bytes of a file count in a block
+abbrev pub HasNoBytes : Content → ℕ → ℕ → ℕ → Type 0
+HasNoBytes counts pfs obj block = (end : ℕ) (bytes : List ℕ) → counts (bytes_subject pfs obj end) bytes → EndsIn block end → ⊥
+
+-- Byte `x` of a file of a size: the bytes that show in its block have it, where they reach over it. Where they do not, and
+-- where none count there, it is zero.
+pub data IsFileByte (counts : Content) (pfs obj size x byte : ℕ) : Type 0 where
+  covered : (end : ℕ) (bytes : List ℕ) → IsShown counts pfs obj size (x / BLOCK_BYTES) end bytes → x < end → end ≤ x + length bytes
+      → byte ≡ slice_index bytes (x + length bytes - end) → IsFileByte counts pfs obj size x byte
+  beside : (end : ℕ) (bytes : List ℕ) → IsShown counts pfs obj size (x / BLOCK_BYTES) end bytes → (end ≤ x) ⊎ (x + length bytes < end)
+      → byte ≡ 0 → IsFileByte counts pfs obj size x byte
+  none : HasNoBytes counts pfs obj (x / BLOCK_BYTES) → byte ≡ 0 → IsFileByte counts pfs obj size x byte
 
 -- the bytes of a file: as many as its inode says
 pub record AreFileBytes (counts : Content) (pfs obj size : ℕ) (bytes : List ℕ) : Type 0 where
   pub sized : length bytes ≡ size
-  pub each : (x : ℕ) → x < size → IsFileByte counts pfs obj x (slice_index bytes x)
+  pub each : (x : ℕ) → x < size → IsFileByte counts pfs obj size x (slice_index bytes x)
 
 -- The target of a softlink: the bytes of its target, or none where there is no target.
 pub data IsTargetOf (counts : Content) (pfs obj : ℕ) (text : List ℕ) : Type 0 where

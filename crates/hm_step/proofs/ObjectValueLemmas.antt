@@ -1,9 +1,9 @@
--- The bytes of a file, the target of a softlink and the objects that elements make, as values with their facts.
-use Rattle.std.proofs.Common.{◌≡◌, ℕ, zero, suc, ◌+◌, ◌-◌, ◌<◌, List, [], ◌∷◌, ◌++◌, length, get_or, take, slice_index, refl, sym, ap, subst, ◌∙◌}
+-- The target of a softlink and the objects that elements make, as values with their facts.
+use Rattle.std.proofs.Common.{◌≡◌, ℕ, ◌+◌, ◌<◌, List, [], ◌∷◌, length, get_or, take, refl, sym, ap, subst, ◌∙◌}
 use Rattle.std.proofs.Common.{inl, inr, arith}
 use Rattle.std.specs.Prelude.{Option, None, Some}
 use Rattle.std.specs.List.{All}
-use Rattle.std.proofs.lemmas.Bool.{cases_eq, cases_lt}
+use Rattle.std.proofs.lemmas.Bool.{cases_eq}
 use Rattle.std.proofs.lemmas.List.Elements.{All-contains}
 use Rattle.hm_types.specs.Elements.{FullElement}
 use Rattle.hm_types.specs.Tree.{insert_by, is_object_before}
@@ -13,49 +13,25 @@ use Rattle.hm_types.specs.declared.object.Kind.{Kind}
 use Rattle.hm_types.specs.declared.object.Kind.TheVariants.{Directory, File, Softlink, PfsLink}
 use Rattle.hm_types.specs.declared.object.Content.{Content as Held}
 use Rattle.hm_types.specs.declared.object.Content.TheVariants.{Nothing, File as of_file, Target, Linked}
-use Rattle.hm_key.specs.Counts.{Counts, Subject, bytes_subject, inode_subject, subject_of, target_subject}
+use Rattle.hm_key.specs.Counts.{Counts, Subject, inode_subject, subject_of, target_subject}
 use Rattle.hm_key.specs.Versions.{HaveOwnKeys}
 use Rattle.hm_records.specs.Inode.{IsInode}
 use Rattle.hm_records.specs.Laws.{made_of}
 use Rattle.hm_records.specs.Payload.{IsPayload, SpellsInode}
-use Rattle.hm_records.specs.PlainView.{HasNumber, HoldsObjects, IsCounted, IsHeldAs, IsLeastEnd, IsNewObject, IsNextEnd, IsObjectAt}
-use Rattle.hm_records.specs.View.{AreFileBytes, IsFileByte, IsTargetOf, held, missing}
+use Rattle.hm_records.specs.PlainView.{HasNumber, HoldsObjects, IsCounted, IsHeldAs, IsNewObject, IsObjectAt}
+use Rattle.hm_records.specs.View.{IsTargetOf, held, missing}
 use Rattle.hm_records.specs.declared.inode.Inode.{Inode}
 use Rattle.hm_records.specs.declared.kind.TheConstants.{DIRECTORY, FILE, SOFTLINK, PFS_LINK}
 use Rattle.hm_records.proofs.CountsLemmas.{settled}
 use Rattle.hm_records.proofs.MemberLemmas.{has_cases, has_head, has_none, has_tail}
-use Rattle.hm_records.proofs.PlainLemmas.{byte_covered, byte_in_hole, byte_past, bytes_more, end_counts, no_object_at, object_at_is}
+use Rattle.hm_records.proofs.PlainLemmas.{no_object_at, object_at_is}
 use Rattle.hm_records.proofs.PlainTreeLemmas.{object_new, objects_added, objects_none, objects_passed}
 use Rattle.hm_records.proofs.SubjectLemmas.{same_subject}
-use Rattle.hm_records.proofs.SearchLemmas.{Decided, counted_of, next_end_of, walked}
+use Rattle.hm_records.proofs.SearchLemmas.{Decided, bytes_of, counted_of, walked}
 
--- ---- bytes
+-- ---- targets
 
 module _ (es : List FullElement) (t pfs obj : ℕ) where
-  byte_before : (place end : ℕ) → IsLeastEnd (Counts es t) pfs obj place es end → (bytes : Option (List ℕ)) → IsCounted es t (bytes_subject pfs obj end) bytes
-      → (byte : ℕ) × IsFileByte (Counts es t) pfs obj place byte
-  byte_before place end least None none = absurd (end_counts es t pfs obj place end least none)
-  byte_before place end least (Some bytes) counts = elim (cases_lt (length bytes) (end - place)) [
-    | inl short ↦ (0, byte_in_hole es t pfs obj place end bytes least counts short)
-    | inr enough ↦ (slice_index bytes (length bytes - (end - place)), byte_covered es t pfs obj place end bytes least counts enough)
-  ]
-
-  byte_by : (place : ℕ) (next : Option ℕ) → IsNextEnd (Counts es t) pfs obj place es next → (byte : ℕ) × IsFileByte (Counts es t) pfs obj place byte
-  byte_by place None none = (0, byte_past es t pfs obj place none)
-  byte_by place (Some end) least = let (bytes, counts) = counted_of es t (bytes_subject pfs obj end) in byte_before place end least bytes counts
-
-  byte_at : (place : ℕ) → (byte : ℕ) × IsFileByte (Counts es t) pfs obj place byte
-  byte_at place = let (next, is) = next_end_of es t pfs obj place in byte_by place next is
-
-  -- the bytes of a file of this size
-  pub bytes_of : (size : ℕ) → (bytes : List ℕ) × AreFileBytes (Counts es t) pfs obj size bytes
-  bytes_of zero = ([], record { sized = refl; each = λ x below. absurd (omega (arith, below)) })
-  bytes_of (suc size) =
-      let (bytes, are) = bytes_of size in
-      let (byte, is) = byte_at size in
-      let one : size + 1 ≡ suc size = omega arith in
-      (bytes ++ byte ∷ [], subst (λ (n : ℕ). AreFileBytes (Counts es t) pfs obj n (bytes ++ byte ∷ [])) one (bytes_more es t pfs obj size byte bytes are is))
-
   target_by : (bytes : Option (List ℕ)) → IsCounted es t (target_subject pfs obj) bytes → (text : List ℕ) × IsTargetOf (Counts es t) pfs obj text
   target_by None none = ([], missing none refl)
   target_by (Some bytes) counts = (bytes, held counts)
@@ -74,7 +50,7 @@ module _ (es : List FullElement) (t pfs obj : ℕ) where
   held_by inode is = elim (cases_eq inode.kind DIRECTORY) [
     | inl kind ↦ (Directory, Nothing, record { kind_is = kind; holds = kind })
     | inr no_directory ↦ elim (cases_eq inode.kind FILE) [
-      | inl kind ↦ let (bytes, are) = bytes_of inode.size in (File, of_file bytes, record { kind_is = kind; holds = (kind, are) })
+      | inl kind ↦ let (bytes, are) = bytes_of es t pfs obj inode.size in (File, of_file bytes, record { kind_is = kind; holds = (kind, are) })
       | inr no_file ↦ elim (cases_eq inode.kind SOFTLINK) [
         | inl kind ↦ let (text, is_target) = target_of in (Softlink, Target text, record { kind_is = kind; holds = (kind, is_target) })
         | inr no_softlink ↦

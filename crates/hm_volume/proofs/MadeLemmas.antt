@@ -1,9 +1,8 @@
 -- Each inode that counts makes an object: elements decide the bytes of files and the targets of softlinks.
-use Rattle.std.proofs.Common.{◌≡◌, ℕ, zero, suc, ◌+◌, ◌-◌, ◌<◌, ◌≤◌, Bool, true, false, List, [], ◌∷◌, ◌++◌, length, get_or, slice_index, take, refl}
-use Rattle.std.proofs.Common.{sym, ap, subst, ◌∙◌, inl, inr, arith}
-use Rattle.std.specs.Prelude.{◌⊎◌, Option, None, Some}
-use Rattle.std.proofs.lemmas.Bool.{cases_eq, cases_lt, false≢true}
-use Rattle.std.proofs.lemmas.List.{get_or_default, take_all}
+use Rattle.std.proofs.Common.{◌≡◌, ℕ, List, [], refl}
+use Rattle.std.proofs.Common.{ap, subst, inl, inr, arith}
+use Rattle.std.specs.Prelude.{Option, None, Some}
+use Rattle.std.proofs.lemmas.Bool.{cases_eq}
 use Rattle.hm_types.specs.Elements.{FullElement}
 use Rattle.hm_types.specs.Tree.{FileTree, object_in}
 use Rattle.hm_types.specs.declared.id.Obj.{Obj}
@@ -12,47 +11,26 @@ use Rattle.hm_types.specs.declared.object.Kind.{Kind}
 use Rattle.hm_types.specs.declared.object.Kind.TheVariants.{Directory, File, Softlink, PfsLink}
 use Rattle.hm_types.specs.declared.object.Content.{Content as Held}
 use Rattle.hm_types.specs.declared.object.Content.TheVariants.{Nothing, File as of_file, Target, Linked}
-use Rattle.hm_key.specs.Counts.{Counts, IsSeen, Subject, bytes_subject, inode_subject, subject_of, target_subject}
-use Rattle.hm_key.specs.Versions.{HaveOwnKeys, is_about}
+use Rattle.hm_key.specs.Counts.{Counts, inode_subject, target_subject}
+use Rattle.hm_key.specs.Versions.{HaveOwnKeys}
 use Rattle.hm_records.specs.Changes.{CountsNothing, HasInode}
 use Rattle.hm_records.specs.Inode.{inode_bytes}
 use Rattle.hm_records.specs.Laws.{HasView, made_of}
 use Rattle.hm_records.specs.PlainView.{IsCounted}
-use Rattle.hm_records.specs.View.{AreFileBytes, IsFileByte, IsObject, IsTargetOf, IsViewOf, covered, held as stands, hole, missing, past}
+use Rattle.hm_records.specs.View.{IsObject, IsTargetOf, IsViewOf, held as stands, missing}
 use Rattle.hm_records.specs.declared.inode.Inode.{Inode}
 use Rattle.hm_records.specs.declared.kind.TheConstants.{DIRECTORY, FILE, SOFTLINK}
-use Rattle.hm_records.proofs.ChangeLemmas.{about_is, is_about_of}
 use Rattle.hm_records.proofs.CountsLemmas.{settled}
 use Rattle.hm_records.proofs.LookupLemmas.{found_is_object, object_is_found}
-use Rattle.hm_records.proofs.MadeLemmas.{directory_made, file_made, no_bytes, pfs_link_made, softlink_made}
-use Rattle.hm_records.proofs.MemberLemmas.{has_none}
+use Rattle.hm_records.proofs.MadeLemmas.{directory_made, file_made, pfs_link_made, softlink_made}
 use Rattle.hm_records.proofs.ObjectLemmas.{inode_one}
-use Rattle.hm_records.proofs.PlainLemmas.{bytes_more}
-use Rattle.hm_records.proofs.SearchLemmas.{counted_of, first_or_none}
+use Rattle.hm_records.proofs.SearchLemmas.{bytes_of, counted_of}
 use Rattle.hm_volume.specs.Found.{IsMadeBy}
 
 module _ (es : List FullElement) (t : ℕ) where
-  -- ---- the bytes of a file
+  -- ---- the target of a softlink
 
   module _ (pfs obj : ℕ) where
-    byte : (place : ℕ) → (b : ℕ) × IsFileByte (Counts es t) pfs obj place b
-    byte place = elim (first_or_none es t pfs obj place) [
-      | inl none ↦ (0, past none refl)
-      | inr (end, bytes, first) ↦ elim (cases_lt (place + length bytes) end) [
-        | inl short ↦ (0, hole end bytes first short refl)
-        | inr enough ↦ (slice_index bytes (place + length bytes - end), covered end bytes first enough refl)
-      ]
-    ]
-
-    file_bytes : (size : ℕ) → (bytes : List ℕ) × AreFileBytes (Counts es t) pfs obj size bytes
-    file_bytes zero = ([], no_bytes pfs obj 0 (Counts es t) refl)
-    file_bytes (suc n) =
-        let (bytes, are) = file_bytes n in
-        let (b, is) = byte n in
-        let next : n + 1 ≡ suc n = omega arith in
-        subst (λ (size : ℕ). (bytes : List ℕ) × AreFileBytes (Counts es t) pfs obj size bytes) next
-        (bytes ++ b ∷ [], bytes_more es t pfs obj n b bytes are is)
-
     target : (text : List ℕ) × IsTargetOf (Counts es t) pfs obj text
     target = by_counted (counted_of es t (target_subject pfs obj)).0 (counted_of es t (target_subject pfs obj)).1 where
       by_counted : (bytes : Option (List ℕ)) → IsCounted es t (target_subject pfs obj) bytes → (text : List ℕ) × IsTargetOf (Counts es t) pfs obj text
@@ -81,7 +59,7 @@ module _ (es : List FullElement) (t : ℕ) where
         | inl is ↦ of_kind Directory Nothing (directory_made pfs number inode (Counts es t) has is)
         | inr no_directory ↦ elim (cases_eq inode.kind FILE) [
           | inl is ↦
-              let (bytes, are) = file_bytes pfs number.0 inode.size in
+              let (bytes, are) = bytes_of es t pfs number.0 inode.size in
               of_kind File (of_file bytes) (file_made pfs number inode bytes (Counts es t) has is are)
           | inr no_file ↦ elim (cases_eq inode.kind SOFTLINK) [
             | inl is ↦

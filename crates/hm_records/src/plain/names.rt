@@ -8,12 +8,12 @@ ghost use Rattle.hm_records.specs.PlainView.{
   HoldsTriples,
   IsEarlierEntry,
   IsEntryAt,
+  IsLess,
   NameLeadsTo,
   IsNewTriple,
 };
 
 use crate::entry::{DirEntry, decode_entry};
-use crate::plain::bytes::is_less;
 use crate::plain::element::{FullElement, counted};
 use crate::plain::subject::entry_of;
 use hm_types::{Fault, HOff, Name, NoMemory, Obj, Pfs, Triple};
@@ -128,6 +128,16 @@ fn is_earlier_entry(
     match entry_at(alloc, elements, pfs, directory, key, id)? {
         Some(entry) => Ok(entry.name == *name),
         None => Ok(false),
+    }
+}
+
+// Whether a number is below another one, or there is no other.
+fn is_less(number: u64, other: Option<u64>) -> bool
+    ensures { IsTrue result ↔ IsLess number other }
+{
+    match other {
+        Some(other) => number < other,
+        None => true,
     }
 }
 
