@@ -36,7 +36,7 @@ use Rattle.hm_objects.specs.Objects.{IsOfObject, ResizesObject, sized, spent}
 use Rattle.hm_files.specs.Close.{AreOlder}
 use Rattle.hm_files.specs.Put.{HasBlockRoom, IsBytesOf, ResizesBytes, block_space}
 use Rattle.hm_files.specs.Write.{WritesBytes, block_count}
-use Rattle.hm_files.proofs.PutLemmas.{byte_alike}
+use Rattle.hm_files.proofs.ShownLemmas.{byte_alike}
 use Rattle.hm_files.proofs.SpanLemmas.{spends_more, spends_none}
 use Rattle.hm_calls.specs.Edits.{ChangesBytes, ChangesFile, HasAllReserves, all_reserves, edited, is_there}
 use Rattle.hm_calls.specs.Known.{AreBelow}
@@ -70,7 +70,7 @@ are_alike : (pfs obj size : ℕ) (bytes : List ℕ) (C D : Content)
     → AreFileBytes D pfs obj size bytes
 are_alike pfs obj size bytes C D same are = record {
   sized = are.sized;
-  each = λ x below. byte_alike pfs obj x (slice_index bytes x) C D (λ n other after. same n other) (are.each x below);
+  each = λ x below. byte_alike pfs obj size size x (slice_index bytes x) C D (inl refl) (λ n other place. same n other) (are.each x below);
 }
 
 pub no_entry_of_bytes : (pfs obj i : ℕ) (x : FullElement) → IsBytesOf pfs obj i x → NamesNothing x

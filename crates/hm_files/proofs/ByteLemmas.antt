@@ -1,5 +1,5 @@
 -- Bytes of payloads, and what bytes a file has.
-use Rattle.std.proofs.Common.{◌≡◌, ℕ, ◌+◌, ◌-◌, ◌<◌, ◌≤◌, List, ◌++◌, Option, None, Some, Result, Ok, Err, ap, drop, length, min, subst, sym, take, ◌∙◌, arith}
+use Rattle.std.proofs.Common.{◌≡◌, ℕ, ◌+◌, ◌-◌, ◌<◌, ◌≤◌, List, ◌++◌, Option, None, Some, Result, Ok, Err, ap, drop, length, min, sym, take, ◌∙◌, arith}
 use Rattle.std.specs.Prelude.{IfSome, IsSomeAnd, OnOk, slice_index}
 use Rattle.std.proofs.Math.Seq.{take-append-add}
 use Rattle.std.proofs.lemmas.List.{drop-take, ext_get_or, get_or-drop, get_or-take, length-drop, length-take, length-take-le}
@@ -8,11 +8,12 @@ use borrow.Rule.Slice.PartMut.{put_mid}
 use Rattle.hm_types.specs.Space.{rounded}
 use Rattle.hm_types.specs.declared.fault.Fault.{Fault}
 use Rattle.hm_key.specs.Balance.{IsHeld, first_bytes, payload_of}
-use Rattle.hm_key.specs.Counts.{Content, bytes_subject}
+use Rattle.hm_key.specs.Counts.{Content}
 use Rattle.hm_key.specs.Extents.{Extent, extent_at}
 use Rattle.hm_key.specs.declared.element.Element.{Element}
 use Rattle.hm_records.specs.Changes.{IsSettled}
-use Rattle.hm_records.specs.View.{AreFileBytes, IsFileByte, IsFirstAfter, covered, hole, past}
+use Rattle.hm_records.specs.View.{AreFileBytes}
+use Rattle.hm_records.proofs.ObjectLemmas.{byte_one}
 use Rattle.hm_files.specs.Bytes.{AreBytesFrom}
 
 -- ---- a part of a payload
@@ -79,42 +80,14 @@ front_put a k xs ys n sized within less =
 
 -- ---- a file has one list of bytes
 
-first_one : (pfs obj x end end' : ℕ) (bytes bytes' : List ℕ) (C : Content) → IsSettled C → IsFirstAfter C pfs obj x end bytes
-    → IsFirstAfter C pfs obj x end' bytes' → (end ≡ end') × (bytes ≡ bytes')
-first_one pfs obj x end end' bytes bytes' C settled a b =
-    let same : end ≡ end' = omega (arith, a.first end' bytes' b.there b.after, b.first end bytes a.there a.after) in (
-      same,
-      settled (bytes_subject pfs obj end') bytes bytes' (subst (λ (n : ℕ). C (bytes_subject pfs obj n) bytes) same a.there) b.there,
-    )
-
--- a byte of a file is one number
-pub byte_one : (pfs obj x a b : ℕ) (C : Content) → IsSettled C → IsFileByte C pfs obj x a → IsFileByte C pfs obj x b → a ≡ b
-byte_one pfs obj x a b C settled (covered end bytes first reaches is) (covered end' bytes' first' reaches' is') =
-    let same = first_one pfs obj x end end' bytes bytes' C settled first first' in
-    let e : end ≡ end' = same.0 in
-    let f : bytes ≡ bytes' = same.1 in
-    is ∙ rw (e, f) (sym is')
-byte_one pfs obj x a b C settled (covered end bytes first reaches is) (hole end' bytes' first' short is') =
-    let same = first_one pfs obj x end end' bytes bytes' C settled first first' in
-    absurd (omega (arith, same.0, ap length same.1))
-byte_one pfs obj x a b C settled (covered end bytes first reaches is) (past none is') = absurd (none end bytes first.there first.after)
-byte_one pfs obj x a b C settled (hole end bytes first short is) (covered end' bytes' first' reaches' is') =
-    let same = first_one pfs obj x end end' bytes bytes' C settled first first' in
-    absurd (omega (arith, same.0, ap length same.1))
-byte_one pfs obj x a b C settled (hole end bytes first short is) (hole end' bytes' first' short' is') = is ∙ sym is'
-byte_one pfs obj x a b C settled (hole end bytes first short is) (past none is') = is ∙ sym is'
-byte_one pfs obj x a b C settled (past none is) (covered end' bytes' first' reaches' is') = absurd (none end' bytes' first'.there first'.after)
-byte_one pfs obj x a b C settled (past none is) (hole end' bytes' first' short' is') = is ∙ sym is'
-byte_one pfs obj x a b C settled (past none is) (past none' is') = is ∙ sym is'
-
 -- bytes from an offset on, as many as are there of those asked for, are those of the whole file
 pub bytes_of_file : (pfs obj size offset asked : ℕ) (bytes content : List ℕ) (C : Content) → IsSettled C → length bytes ≡ min asked (size - offset)
-    → AreBytesFrom C pfs obj offset bytes → AreFileBytes C pfs obj size content → bytes ≡ take asked (drop offset content)
+    → AreBytesFrom C pfs obj size offset bytes → AreFileBytes C pfs obj size content → bytes ≡ take asked (drop offset content)
 bytes_of_file pfs obj size offset asked bytes content C settled sized are file =
     ext_get_or 0 bytes (take asked (drop offset content))
     (omega (arith, sized, length-take asked (drop offset content), length-drop offset content, file.sized))
     (λ i below.
     let small : i < asked = omega (arith, below, sized) in
     let there : offset + i < size = omega (arith, below, sized) in
-    byte_one pfs obj (offset + i) (slice_index bytes i) (slice_index content (offset + i)) C settled (are.each i below) (file.each (offset + i) there)
+    byte_one pfs obj size (offset + i) (slice_index bytes i) (slice_index content (offset + i)) C settled (are.each i below) (file.each (offset + i) there)
     ∙ sym (get_or-drop offset content i 0) ∙ sym (get_or-take asked (drop offset content) i 0 small))

@@ -31,7 +31,7 @@ bytes_within pfs obj n = record { place = inr refl; no_record = λ is. absurd (o
 pub ends_apart : (pfs obj n m : ℕ) → n ≢ m → bytes_subject pfs obj n ≢ bytes_subject pfs obj m
 ends_apart pfs obj n m differ is = differ (ap (λ (s : Subject). s.key) is)
 
-none_some : (bytes : List ℕ) → None ≡ Some bytes → ⊥
+pub none_some : (bytes : List ℕ) → None ≡ Some bytes → ⊥
 none_some bytes is = cc
 
 -- of a file's bytes those that end from `first` on and before `end` are closed at `i`, and all else is as it was

@@ -1,18 +1,18 @@
 -- Bytes that are cut off a file.
-use Rattle.std.proofs.Common.{◌≡◌, ℕ, ◌+◌, ◌-◌, ◌%◌, ◌^◌, ◌<◌, ◌≤◌, List, ◌++◌, length, length-append, min, replicate, refl, ap, sym, subst, ◌∙◌, inl}
+use Rattle.std.proofs.Common.{◌≡◌, ℕ, ◌+◌, ◌-◌, ◌%◌, ◌/◌, ◌^◌, ◌<◌, ◌≤◌, List, ◌++◌, length, length-append, min, replicate, refl, ap, sym, subst, ◌∙◌, inl}
 use Rattle.std.proofs.Common.{inr, arith}
 use Rattle.std.specs.Prelude.{◌↔◌, ◌⊎◌, slice_index}
 use Rattle.std.specs.List.{Contains}
-use Rattle.std.proofs.lemmas.Bool.{cases_lt}
+use Rattle.std.proofs.lemmas.Bool.{cases_eq, cases_lt}
 use Rattle.std.proofs.lemmas.List.{get_or-append_right, get_or-replicate, get_or-take, get_or_append_left, length-replicate, length-take}
 use Rattle.hm_types.specs.Elements.{FullElement, Key}
 use Rattle.hm_types.specs.declared.limits.TheConstants.{BLOCK_BYTES, MOST_FILE_BYTES}
 use Rattle.hm_key.specs.Counts.{Counts, Subject, bytes_subject}
 use Rattle.hm_key.specs.Element.{IsInBlock}
 use Rattle.hm_key.specs.declared.rec_type.TheConstants.{FILE_BYTES}
-use Rattle.hm_records.specs.Changes.{CountsNothing, IsSettled}
-use Rattle.hm_records.specs.View.{AreFileBytes, IsFileByte, IsFirstAfter, covered, hole, past}
-use Rattle.hm_records.proofs.SearchLemmas.{first_or_none}
+use Rattle.hm_records.specs.Changes.{IsSettled}
+use Rattle.hm_records.specs.View.{AreFileBytes, IsFileByte, IsShown, beside, covered, none}
+use Rattle.hm_records.proofs.ObjectLemmas.{byte_one}
 use Rattle.hm_cursor.specs.Views.{CameAs, WritesIn}
 use Rattle.hm_cursor.proofs.FollowLemmas.{follow_twice}
 use Rattle.hm_cursor.proofs.ViewsLemmas.{fresh_later, writes_again}
@@ -20,8 +20,8 @@ use Rattle.hm_files.specs.Bytes.{AreBytesFrom}
 use Rattle.hm_files.specs.Close.{AreOlder, ClosesBytes}
 use Rattle.hm_files.specs.Put.{CutsBytes, IsBytesOf, KeepOthers, PutsBlock, ResizesBytes}
 use Rattle.hm_types.specs.Bytes.{resized}
-use Rattle.hm_files.proofs.ByteLemmas.{byte_one}
-use Rattle.hm_files.proofs.PutLemmas.{byte_alike, byte_earlier, byte_put, closes_writes, steady}
+use Rattle.hm_files.proofs.PutLemmas.{closes_writes, steady}
+use Rattle.hm_files.proofs.ShownLemmas.{byte_alike, byte_put, byte_zero}
 
 -- the bytes of files lie in blocks
 abbrev pub AreBlocks : List FullElement → Type 0
@@ -45,161 +45,127 @@ blocks_still pfs obj i es es' writes blocks x has type = by_origin (writes.came 
       (blocks e there (sym (ap (λ (k : Key). k.rec_type) key) ∙ type)))
   by_origin (inr new) = new.payload.file_bytes type
 
--- where all that ends after a byte begins after it, the byte is zero
-pub byte_zero : (es : List FullElement) (t pfs obj x : ℕ)
-    → ((n : ℕ) (bytes : List ℕ) → Counts es t (bytes_subject pfs obj n) bytes → x < n → x + length bytes < n) → IsFileByte (Counts es t) pfs obj x 0
-byte_zero es t pfs obj x short = elim (first_or_none es t pfs obj x) [
-  | inl none ↦ past none refl
-  | inr (end, bytes, first) ↦ hole end bytes first (short end bytes first.there first.after) refl
-]
-
-module _ (pfs obj i end : ℕ) (es mid : List FullElement) (aligned : end % BLOCK_BYTES ≡ 0) (blocks : AreBlocks es)
-    (closes : ClosesBytes pfs obj i (end + 1) (2 ^ 64) es mid) where
+module _ (pfs obj i size keep : ℕ) (es mid : List FullElement) (within : keep ≤ size) (small : keep ≤ MOST_FILE_BYTES)
+    (closes : ClosesBytes pfs obj i (keep + 1) (2 ^ 64) es mid) where
   closed_writes : WritesIn pfs i (IsBytesOf pfs obj i) es mid
-  closed_writes = closes_writes pfs obj i (end + 1) (2 ^ 64) es mid closes
-
-  pub closed_blocks : AreBlocks mid
-  closed_blocks = blocks_still pfs obj i es mid closed_writes blocks
+  closed_writes = closes_writes pfs obj i es mid closes.writes
 
   -- what ends by there counts as before
-  same_low : (t n : ℕ) (bytes : List ℕ) → n ≤ end → Counts mid t (bytes_subject pfs obj n) bytes ↔ Counts es t (bytes_subject pfs obj n) bytes
+  same_low : (t n : ℕ) (bytes : List ℕ) → n ≤ keep → Counts mid t (bytes_subject pfs obj n) bytes ↔ Counts es t (bytes_subject pfs obj n) bytes
   same_low t n bytes low = closes.beside t (bytes_subject pfs obj n) bytes (λ m up down is. absurd (omega (arith, low, up, ap (λ (s : Subject). s.key) is)))
 
-  -- and what counts now counted
-  was_there : (t n : ℕ) (bytes : List ℕ) → i ≤ t → Counts mid t (bytes_subject pfs obj n) bytes → Counts es t (bytes_subject pfs obj n) bytes
-  was_there t n bytes late counts = elim (cases_lt end n) [
-    | inr low ↦ (same_low t n bytes low).0 counts
-    | inl high ↦ elim (cases_lt n (2 ^ 64)) [
-      | inl small ↦ absurd (closes.gone t n late (omega (arith, high)) small bytes counts)
-      | inr great ↦ (closes.beside t (bytes_subject pfs obj n) bytes
-          (λ m up down is. absurd (omega (arith, great, down, ap (λ (s : Subject). s.key) is)))).0 counts
-    ]
+  -- what is left past it is beyond all offsets that are asked for
+  left_low : (t n : ℕ) (bytes : List ℕ) → i ≤ t → Counts mid t (bytes_subject pfs obj n) bytes → n < 2 ^ 64 → n ≤ keep
+  left_low t n bytes late counts near = elim (cases_lt keep n) [
+    | inl high ↦ absurd (closes.gone t n late (omega (arith, high)) near bytes counts)
+    | inr low ↦ low
   ]
-
-  -- what is left past the end is beyond all offsets that are asked for
-  pub left_great : (t n : ℕ) (bytes : List ℕ) → i ≤ t → Counts mid t (bytes_subject pfs obj n) bytes → end < n → 2 ^ 64 ≤ n
-  left_great t n bytes late counts high = elim (cases_lt n (2 ^ 64)) [
-    | inl small ↦ absurd (closes.gone t n late (omega (arith, high)) small bytes counts)
-    | inr great ↦ great
-  ]
-
-  first_low : (t x n : ℕ) (bytes : List ℕ) → i ≤ t → n ≤ end → IsFirstAfter (Counts es t) pfs obj x n bytes → IsFirstAfter (Counts mid t) pfs obj x n bytes
-  first_low t x n bytes late low first = record {
-    there = (same_low t n bytes low).1 first.there;
-    after = first.after;
-    first = λ m others counts after. first.first m others (was_there t m others late counts) after;
-  }
-
-  -- a byte before the end is as before
-  pub byte_closed : (t x v : ℕ) → i ≤ t → x < end → IsFileByte (Counts es t) pfs obj x v → IsFileByte (Counts mid t) pfs obj x v
-  byte_closed t x v late below (covered n bytes first reaches is) =
-      let block = counted_block es t pfs obj n bytes blocks first.there in
-      covered n bytes (first_low t x n bytes late (omega (arith, block.few, block.within, block.aligned, aligned, below, reaches)) first) reaches is
-  byte_closed t x v late below (hole n bytes first short is) = elim (cases_lt end n) [
-    | inr low ↦ hole n bytes (first_low t x n bytes late low first) short is
-    | inl high ↦
-        subst (λ (b : ℕ). IsFileByte (Counts mid t) pfs obj x b) (sym is)
-        (byte_zero mid t pfs obj x (λ m others counts after.
-        let block = counted_block mid t pfs obj m others closed_blocks counts in
-        let later = first.first m others (was_there t m others late counts) after in
-        omega (arith, block.few, block.within, block.aligned, aligned, below, later, high)))
-  ]
-  byte_closed t x v late below (past none is) = past (λ n bytes counts after. none n bytes (was_there t n bytes late counts) after) is
-
-  -- where nothing between an offset and the end counts, bytes are zero from the offset on
-  pub zero_from : (t keep x : ℕ) → i ≤ t → keep ≤ x → x + BLOCK_BYTES < 2 ^ 64
-      → ((n : ℕ) → keep < n → n ≤ end → CountsNothing (Counts mid t) (bytes_subject pfs obj n)) → IsFileByte (Counts mid t) pfs obj x 0
-  zero_from t keep x late from small none =
-      byte_zero mid t pfs obj x (λ n bytes counts after. by_place n bytes counts after (cases_lt end n))
-    where
-      by_place : (n : ℕ) (bytes : List ℕ) → Counts mid t (bytes_subject pfs obj n) bytes → x < n → (end < n) ⊎ (n ≤ end) → x + length bytes < n
-      by_place n bytes counts after (inl high) =
-          let great = left_great t n bytes late counts high in
-          let block = counted_block mid t pfs obj n bytes closed_blocks counts in
-          omega (arith, great, small, block.few)
-      by_place n bytes counts after (inr low) = absurd (none n (omega (arith, from, after)) low bytes counts)
 
   -- what is about no bytes of the file counts as before
-  pub closed_others : KeepOthers pfs obj es mid
+  closed_others : KeepOthers pfs obj es mid
   closed_others t s bytes differ =
       closes.beside t s bytes (λ n up down is. differ (is ∙ ap (bytes_subject pfs obj) (sym (ap (λ (z : Subject). z.key) is))))
 
-  -- where the end is where the file is cut, or nothing stands between
-  pub cut_closed : (keep : ℕ) → keep ≤ end → ((t n : ℕ) → i ≤ t → keep < n → n ≤ end → CountsNothing (Counts mid t) (bytes_subject pfs obj n))
-      → CutsBytes pfs obj i keep es mid
-  cut_closed keep within none = record {
-    writes = closed_writes;
-    kept = λ t x v late below is. byte_closed t x v late (omega (arith, below, within)) is;
-    zero = λ t x late from small. zero_from t keep x late from small (λ n above low. none t n late above low);
-    fresh = λ n differ older. closes.writes.fresh (bytes_subject pfs obj n) (λ x new. absurd new) older;
-    others = closed_others;
-    follows = closes.follows;
+  -- a byte of a block before the one of the cut is as before, whatever size the file has from there on
+  byte_closed : (t after x v : ℕ) → keep ≤ after → x / BLOCK_BYTES < keep / BLOCK_BYTES → IsFileByte (Counts es t) pfs obj size x v
+      → IsFileByte (Counts mid t) pfs obj after x v
+  byte_closed t after x v reaches earlier is =
+      byte_alike pfs obj size after x v (Counts es t) (Counts mid t) (inr (omega (arith, earlier, within), omega (arith, earlier, reaches)))
+      (λ n bytes place. same_low t n bytes (let to = place.to in omega (arith, to, earlier))) is
+
+  -- what shows in the block of the cut, and ends by there, shows still
+  shown_low : (t after block end : ℕ) (bytes : List ℕ) → i ≤ t → keep ≤ after → block ≡ keep / BLOCK_BYTES → end ≤ keep
+      → IsShown (Counts es t) pfs obj size block end bytes → IsShown (Counts mid t) pfs obj after block end bytes
+  shown_low t after block end bytes late reaches here low shown = record {
+    there = (same_low t end bytes low).1 shown.there;
+    place = shown.place;
+    rather = λ other others counts place.
+        let lower : other ≤ keep = left_low t other others late counts (let to = place.to in omega (arith, to, here, small)) in
+        elim (shown.rather other others ((same_low t other others lower).0 counts) place) [
+          | inl rather ↦ inl (omega (arith, low, reaches), inl (elim rather.1 [ inl last ↦ last | inr past ↦ absurd (omega (arith, past, lower, within)) ]))
+          | inr past ↦ let above = past.0 in absurd (omega (arith, above, low, within))
+        ];
   }
 
+  -- where what shows in the block of the cut ends by there
+  module _ (ends : (t x end : ℕ) (bytes : List ℕ) → i ≤ t → x < keep → x / BLOCK_BYTES ≡ keep / BLOCK_BYTES
+      → IsShown (Counts es t) pfs obj size (x / BLOCK_BYTES) end bytes → end ≤ keep) where
+    kept_here : (t after x v : ℕ) → i ≤ t → keep ≤ after → x < keep → x / BLOCK_BYTES ≡ keep / BLOCK_BYTES → IsFileByte (Counts es t) pfs obj size x v
+        → IsFileByte (Counts mid t) pfs obj after x v
+    kept_here t after x v late reaches below here (covered end bytes shown over long is) =
+        covered end bytes (shown_low t after (x / BLOCK_BYTES) end bytes late reaches here (ends t x end bytes late below here shown) shown) over long is
+    kept_here t after x v late reaches below here (beside end bytes shown out is) =
+        beside end bytes (shown_low t after (x / BLOCK_BYTES) end bytes late reaches here (ends t x end bytes late below here shown) shown) out is
+    kept_here t after x v late reaches below here (none nothing is) =
+        none (λ n bytes counts place.
+        let lower : n ≤ keep = left_low t n bytes late counts (let to = place.to in omega (arith, to, here, small)) in
+        nothing n bytes ((same_low t n bytes lower).0 counts) place) is
+
+    pub cut_closed : CutsBytes pfs obj i size keep es mid
+    cut_closed = record {
+      writes = closed_writes;
+      kept = λ t after x v late reaches below is. elim (cases_lt (x / BLOCK_BYTES) (keep / BLOCK_BYTES)) [
+        | inl earlier ↦ byte_closed t after x v reaches earlier is
+        | inr not ↦ kept_here t after x v late reaches below (omega (arith, not, below)) is
+      ];
+      zero = λ t after x late from near.
+          byte_zero mid t pfs obj after x (λ n bytes counts place.
+          let lower : n ≤ keep = left_low t n bytes late counts (let to = place.to in omega (arith, to, near)) in
+          inl (omega (arith, lower, from)));
+      fresh = λ n differ older. closes.writes.fresh (bytes_subject pfs obj n) (λ x new. absurd new) older;
+      others = closed_others;
+      follows = closes.follows;
+    }
+
   -- where the block is put with what it had before the cut
-  module _ (begin keep : ℕ) (front : List ℕ) (es' : List FullElement) (at_end : end ≡ begin + BLOCK_BYTES) (sized : keep ≡ begin + length front)
-      (some : 1 ≤ length front) (few : length front ≤ BLOCK_BYTES) (settled : IsSettled (Counts mid i)) (older : AreOlder pfs obj i (begin + 1) mid)
-      (read : AreBytesFrom (Counts mid i) pfs obj begin front) (puts : PutsBlock pfs obj i begin front mid es') where
-    start : begin % BLOCK_BYTES ≡ 0
-    start = omega (arith, aligned, at_end)
-
-    beside_put : (t n : ℕ) (bytes : List ℕ) → (n ≤ begin) ⊎ (begin + BLOCK_BYTES < n)
-        → Counts es' t (bytes_subject pfs obj n) bytes ↔ Counts mid t (bytes_subject pfs obj n) bytes
-    beside_put t n bytes (inl low) = puts.beside t (bytes_subject pfs obj n) bytes
-        (λ m up down is. absurd (omega (arith, low, up, ap (λ (s : Subject). s.key) is)))
-    beside_put t n bytes (inr high) = puts.beside t (bytes_subject pfs obj n) bytes
-        (λ m up down is. absurd (omega (arith, high, down, ap (λ (s : Subject). s.key) is)))
-
-    mid_blocks : (t n : ℕ) (bytes : List ℕ) → Counts mid t (bytes_subject pfs obj n) bytes → IsInBlock n (length bytes)
-    mid_blocks t n bytes counts = counted_block mid t pfs obj n bytes closed_blocks counts
+  module _ (begin : ℕ) (front : List ℕ) (es' : List FullElement) (aligned : begin % BLOCK_BYTES ≡ 0) (sized : keep ≡ begin + length front)
+      (some : 1 ≤ length front) (few : length front ≤ BLOCK_BYTES) (settled : IsSettled (Counts es i)) (older : AreOlder pfs obj i 0 es)
+      (read : AreBytesFrom (Counts es i) pfs obj size begin front) (puts : PutsBlock pfs obj i begin front mid es') where
+    -- what counts then ends by the cut
+    put_low : (t n : ℕ) (bytes : List ℕ) → i ≤ t → Counts es' t (bytes_subject pfs obj n) bytes → n < 2 ^ 64 → n ≤ keep
+    put_low t n bytes late counts near = elim (cases_eq n (begin + length front)) [
+      | inl is ↦ omega (arith, is, sized)
+      | inr differ ↦ left_low t n bytes late (puts.less t n bytes late differ counts) near
+    ]
 
     -- a byte of the block is the one that was read
-    read_byte : (t x v : ℕ) → i ≤ t → begin ≤ x → x < keep → IsFileByte (Counts mid t) pfs obj x v → slice_index front (x - begin) ≡ v
+    read_byte : (t x v : ℕ) → i ≤ t → begin ≤ x → x < keep → IsFileByte (Counts es t) pfs obj size x v → slice_index front (x - begin) ≡ v
     read_byte t x v late from to is =
         let k : ℕ = x - begin in
         let place : begin + k ≡ x = omega (arith, from) in
         let inside : k < length front = omega (arith, from, to, sized) in
-        let there : IsFileByte (Counts mid i) pfs obj x (slice_index front k) =
-        subst (λ (y : ℕ). IsFileByte (Counts mid i) pfs obj y (slice_index front k)) place (read.each k inside) in
-        let now : IsFileByte (Counts mid i) pfs obj x v =
-        byte_alike pfs obj x v (Counts mid t) (Counts mid i)
-        (λ n bytes after.
-        let fresh = fresh_later (bytes_subject pfs obj n) i t mid bytes (older n (omega (arith, from, after))) late in
+        let there : IsFileByte (Counts es i) pfs obj size x (slice_index front k) =
+        subst (λ (y : ℕ). IsFileByte (Counts es i) pfs obj size y (slice_index front k)) place (read.each k inside) in
+        let now : IsFileByte (Counts es i) pfs obj size x v =
+        byte_alike pfs obj size size x v (Counts es t) (Counts es i) (inl refl)
+        (λ n bytes place.
+        let fresh = fresh_later (bytes_subject pfs obj n) i t es bytes (older n (omega arith)) late in
         (λ h. fresh.1 h, λ h. fresh.0 h)) is in
-        byte_one pfs obj x (slice_index front k) v (Counts mid i) settled there now
+        byte_one pfs obj size x (slice_index front k) v (Counts es i) settled there now
 
-    kept_put : (t x v : ℕ) → i ≤ t → x < keep → IsFileByte (Counts es t) pfs obj x v → IsFileByte (Counts es' t) pfs obj x v
-    kept_put t x v late below is =
-        let before = byte_closed t x v late (omega (arith, below, sized, few, at_end)) is in
-        elim (cases_lt x begin) [
-          | inl early ↦
-              byte_earlier pfs obj begin front (Counts mid t) (Counts es' t) start some few (mid_blocks t) (puts.there t late)
-              (λ n other from to counts. puts.only t n other late from to counts) (beside_put t) x v early before
-          | inr inside ↦
-              subst (λ (b : ℕ). IsFileByte (Counts es' t) pfs obj x b) (read_byte t x v late inside below before)
-              (byte_put pfs obj begin front (Counts mid t) (Counts es' t) start some few (mid_blocks t) (puts.there t late)
-              (λ n other from to counts. puts.only t n other late from to counts) (beside_put t) x inside (omega (arith, below, sized)))
-        ]
+    kept_put : (t after x v : ℕ) → i ≤ t → keep ≤ after → x < keep → IsFileByte (Counts es t) pfs obj size x v
+        → IsFileByte (Counts es' t) pfs obj after x v
+    kept_put t after x v late reaches below is = elim (cases_lt x begin) [
+      | inl early ↦
+          byte_alike pfs obj after after x v (Counts mid t) (Counts es' t) (inl refl)
+          (λ n bytes place. puts.beside t (bytes_subject pfs obj n) bytes
+          (λ m up down same. absurd (let to = place.to in omega (arith, to, early, aligned, up, ap (λ (s : Subject). s.key) same))))
+          (byte_closed t after x v reaches (omega (arith, early, aligned, sized)) is)
+      | inr inside ↦
+          subst (λ (b : ℕ). IsFileByte (Counts es' t) pfs obj after x b) (read_byte t x v late inside below is)
+          (byte_put pfs obj begin after front (Counts es' t) some few (puts.there t late) (omega (arith, reaches, sized))
+          (λ n other counts from to. inl (let low = put_low t n other late counts (omega (arith, to, sized, small)) in omega (arith, low, sized)))
+          x (omega (arith, inside, below, aligned, sized, few)) (omega (arith, below, sized)))
+    ]
 
-    put_blocks : AreBlocks es'
-    put_blocks = blocks_still pfs obj i mid es' puts.writes closed_blocks
-
-    zero_put : (t x : ℕ) → i ≤ t → keep ≤ x → x + BLOCK_BYTES < 2 ^ 64 → IsFileByte (Counts es' t) pfs obj x 0
-    zero_put t x late from small = byte_zero es' t pfs obj x (λ n bytes counts after. by_place n bytes counts after (cases_lt (begin + BLOCK_BYTES) n)) where
-      by_place : (n : ℕ) (bytes : List ℕ) → Counts es' t (bytes_subject pfs obj n) bytes → x < n → (begin + BLOCK_BYTES < n) ⊎ (n ≤ begin + BLOCK_BYTES)
-          → x + length bytes < n
-      by_place n bytes counts after (inl high) =
-          let great = left_great t n bytes late ((beside_put t n bytes (inr high)).0 counts) (omega (arith, high, at_end)) in
-          let block = counted_block es' t pfs obj n bytes put_blocks counts in
-          omega (arith, great, small, block.few)
-      by_place n bytes counts after (inr low) =
-          absurd (omega (arith, puts.only t n bytes late (omega (arith, from, after, sized)) low counts, from, after, sized))
-
-    pub cut_put : CutsBytes pfs obj i keep es es'
+    pub cut_put : CutsBytes pfs obj i size keep es es'
     cut_put = record {
       writes = writes_again pfs i (IsBytesOf pfs obj i) es mid es' (steady pfs obj i) closed_writes puts.writes;
       kept = kept_put;
-      zero = zero_put;
+      zero = λ t after x late from near.
+          byte_zero es' t pfs obj after x (λ n bytes counts place.
+          let low : n ≤ keep = put_low t n bytes late counts (let to = place.to in omega (arith, to, near)) in
+          inl (omega (arith, low, from)));
       fresh = λ n differ older'.
           puts.fresh n (λ is. differ (is ∙ sym sized)) (closes.writes.fresh (bytes_subject pfs obj n) (λ x new. absurd new) older');
       others = λ t s bytes differ.
@@ -211,24 +177,24 @@ module _ (pfs obj i end : ℕ) (es mid : List FullElement) (aligned : end % BLOC
 
 -- ---- a file of another size
 
-module _ (pfs obj i size new : ℕ) (es es' : List FullElement) (small : new ≤ MOST_FILE_BYTES) (cuts : CutsBytes pfs obj i (min size new) es es') where
+module _ (pfs obj i size new : ℕ) (es es' : List FullElement) (small : new ≤ MOST_FILE_BYTES) (cuts : CutsBytes pfs obj i size (min size new) es es') where
   resized_each : (t : ℕ) (content : List ℕ) → i ≤ t → AreFileBytes (Counts es t) pfs obj size content → (x : ℕ) → x < new
-      → IsFileByte (Counts es' t) pfs obj x (slice_index (resized new content) x)
+      → IsFileByte (Counts es' t) pfs obj new x (slice_index (resized new content) x)
   resized_each t content late file x below =
-      subst (λ (b : ℕ). IsFileByte (Counts es' t) pfs obj x b) (sym (get_or-take new (content ++ replicate (new - length content) 0) x 0 below))
+      subst (λ (b : ℕ). IsFileByte (Counts es' t) pfs obj new x b) (sym (get_or-take new (content ++ replicate (new - length content) 0) x 0 below))
       (by_place (cases_lt x size))
     where
-      by_place : (x < size) ⊎ (size ≤ x) → IsFileByte (Counts es' t) pfs obj x (slice_index (content ++ replicate (new - length content) 0) x)
+      by_place : (x < size) ⊎ (size ≤ x) → IsFileByte (Counts es' t) pfs obj new x (slice_index (content ++ replicate (new - length content) 0) x)
       by_place (inl inside) =
-          subst (λ (b : ℕ). IsFileByte (Counts es' t) pfs obj x b)
+          subst (λ (b : ℕ). IsFileByte (Counts es' t) pfs obj new x b)
           (sym (get_or_append_left content (replicate (new - length content) 0) 0 x (omega (arith, inside, file.sized))))
-          (cuts.kept t x (slice_index content x) late (omega (arith, inside, below)) (file.each x inside))
+          (cuts.kept t new x (slice_index content x) late (omega arith) (omega (arith, inside, below)) (file.each x inside))
       by_place (inr past') =
           let zero : slice_index (content ++ replicate (new - length content) 0) x ≡ 0 =
           get_or-append_right content (replicate (new - length content) 0) size x 0 file.sized past'
           ∙ get_or-replicate (new - length content) (x - size) 0 0 (omega (arith, past', below, file.sized)) in
-          subst (λ (b : ℕ). IsFileByte (Counts es' t) pfs obj x b) (sym zero)
-          (cuts.zero t x late (omega (arith, past')) (omega (arith, below, small)))
+          subst (λ (b : ℕ). IsFileByte (Counts es' t) pfs obj new x b) (sym zero)
+          (cuts.zero t new x late (omega (arith, past')) (omega (arith, below, small)))
 
   pub bytes_resized : ResizesBytes pfs obj i size new es es'
   bytes_resized = record {

@@ -1,46 +1,96 @@
 -- What a cut does, by what was read between its calls.
-use Rattle.std.proofs.Common.{◌≡◌, ℕ, ◌+◌, ◌%◌, ◌^◌, ◌≤◌, List, None, length, inl, arith}
+use Rattle.std.proofs.Common.{◌≡◌, ℕ, ◌+◌, ◌%◌, ◌/◌, ◌^◌, ◌<◌, ◌≤◌, List, Option, None, Some, ap, length, min, subst, sym, inl, inr, arith}
+use Rattle.std.specs.Prelude.{IsSomeAnd}
+use Rattle.std.proofs.lemmas.Bool.{cases_lt}
 use Rattle.hm_types.specs.Elements.{FullElement, Key}
 use Rattle.hm_types.specs.declared.limits.TheConstants.{BLOCK_BYTES, MOST_FILE_BYTES}
-use Rattle.hm_key.specs.Balance.{full_elements}
-use Rattle.hm_key.specs.Counts.{bytes_subject, subject_of}
+use Rattle.hm_key.specs.Balance.{full_elements, payload_of}
+use Rattle.hm_key.specs.Counts.{Counts, Subject, bytes_subject, subject_of}
 use Rattle.hm_key.specs.Elements.{IsContent}
+use Rattle.hm_key.specs.declared.element.Element.{Element}
+use Rattle.hm_records.specs.View.{EndsIn, IsShown, ShowsRather}
 use Rattle.hm_records.proofs.CountsLemmas.{own_keys-sorted, settled}
 use Rattle.hm_cursor.specs.Told.{Lists, fulls}
-use Rattle.hm_cursor.specs.Version.{IsFirst}
-use Rattle.hm_cursor.specs.Write.{IsFreshFor}
+use Rattle.hm_cursor.specs.Version.{IsNewestOf}
 use Rattle.hm_cursor.proofs.PayloadLemmas.{full_sorted}
+use Rattle.hm_cursor.proofs.ToldLemmas.{counts_newest, newest_counted}
 use Rattle.hm_cursor.proofs.ViewsLemmas.{fresh_later}
-use Rattle.hm_files.specs.Bytes.{AreRead}
+use Rattle.hm_files.specs.Bytes.{AreRead, block_end, block_start}
 use Rattle.hm_files.specs.Close.{AreOlder, ClosesBytes}
+use Rattle.hm_files.specs.Nearest.{FindsNearest, past, up_to}
 use Rattle.hm_files.specs.Put.{CutsBytes, PutsBlock}
-use Rattle.hm_files.proofs.CloseLemmas.{nothing_between}
 use Rattle.hm_files.proofs.CutLemmas.{AreBlocks, cut_closed, cut_put}
+use Rattle.hm_files.proofs.PieceLemmas.{counted_in, span_about}
 
 -- what a cut knows of the content that it finds
 abbrev pub IsKnown : ℕ → ℕ → ℕ → Lists → Type 0
 IsKnown pfs obj i lists = AreBlocks (fulls lists) × AreOlder pfs obj i 0 (fulls lists)
 
-module _ (pfs obj i end : ℕ) (aligned : end % BLOCK_BYTES ≡ 0) (was mid : Lists) (known : IsKnown pfs obj i was)
-    (closes : ClosesBytes pfs obj i (end + 1) (2 ^ 64) (fulls was) (fulls mid)) where
-  older_mid : (n : ℕ) → IsFreshFor (bytes_subject pfs obj n) i (fulls mid)
-  older_mid n = closes.writes.fresh (bytes_subject pfs obj n) (λ x new. absurd new) (known.1 n (omega arith))
+module _ (pfs obj i size keep : ℕ) (within : keep ≤ size) (small : keep ≤ MOST_FILE_BYTES) (was : Lists) (known : IsKnown pfs obj i was) where
+  -- where the cut is where a block begins
+  pub cut_between : (es' : List FullElement) → keep % BLOCK_BYTES ≡ 0 → ClosesBytes pfs obj i (keep + 1) (2 ^ 64) (fulls was) es'
+      → CutsBytes pfs obj i size keep (fulls was) es'
+  cut_between es' aligned closes =
+      cut_closed pfs obj i size keep (fulls was) es' within small closes
+      (λ t x end bytes late below here shown. absurd (omega (arith, aligned, below, here)))
 
-  -- where nothing is seen from the offset to the end of its block
-  pub cut_unseen : (at : Key) (keep : ℕ) → subject_of at ≡ bytes_subject pfs obj (keep + 1) → keep ≤ end → IsFirst mid.0 at end i None
-      → CutsBytes pfs obj i keep (fulls was) (fulls mid)
-  cut_unseen at keep here within none =
-      cut_closed pfs obj i end (fulls was) (fulls mid) aligned known.0 closes keep within
-      (λ t n late above low bytes counts.
-      nothing_between at pfs obj (keep + 1) end i here mid (end + 1) (omega arith) (λ y is. absurd (none y is)) n (omega (arith, above))
-      (omega (arith, low)) bytes ((fresh_later (bytes_subject pfs obj n) i t (fulls mid) bytes (older_mid n) late).0 counts))
+  -- what shows in the block of the cut is what a search found there
+  module _ (at : Key) (near last : ℕ) (content : IsContent was.0) (at_is : subject_of at ≡ bytes_subject pfs obj (block_start keep + 1))
+      (near_is : near ≡ min size (block_end keep)) (last_is : last ≡ block_end keep) where
+    -- where it ends by the cut, or none was found
+    pub cut_unseen : (found : Option Element) (es' : List FullElement) → FindsNearest was.0 at near last i found
+        → (IsSomeAnd found (λ e. keep < e.base.key) → ⊥)
+        → ClosesBytes pfs obj i (keep + 1) (2 ^ 64) (fulls was) es' → CutsBytes pfs obj i size keep (fulls was) es'
+    cut_unseen found es' finds low closes = cut_closed pfs obj i size keep (fulls was) es' within small closes ends where
+      by_found : (end : ℕ) (y : Element) → (found : Option Element) → FindsNearest was.0 at near last i found → (IsSomeAnd found (λ e. keep < e.base.key) → ⊥)
+          → y.base.key ≡ end → IsNewestOf was.0 (bytes_subject pfs obj end) i y → EndsIn (keep / BLOCK_BYTES) end
+          → ((e : Element) → IsNewestOf was.0 (bytes_subject pfs obj e.base.key) i e → EndsIn (keep / BLOCK_BYTES) e.base.key → ShowsRather size end e.base.key)
+          → end ≤ keep
+      by_found end y None finds low key newest place rather =
+          let from = place.from in
+          let to = place.to in
+          absurd (finds y (counted_in was.0 at last i pfs obj (block_start keep + 1) end y at_is newest (omega (arith, from)) (omega (arith, to, last_is))))
+      by_found end y (Some e) (up_to is) low key newest place rather =
+          let from = place.from in
+          let about = span_about at near pfs obj (block_start keep + 1) e at_is is.place in
+          let there : EndsIn (keep / BLOCK_BYTES) e.base.key = record {
+            from = omega (arith, is.place.from, ap (λ (s : Subject). s.key) at_is);
+            to = omega (arith, is.place.to, near_is);
+          } in
+          let seen = rather e (subst (λ (s : Subject). IsNewestOf was.0 s i e) about is.counts) there in
+          let most : keep < e.base.key → ⊥ = low in
+          elim (cases_lt keep end) [
+            | inr within' ↦ within'
+            | inl above ↦ elim seen [
+              | inl shows ↦
+                  let counted = counted_in was.0 at near i pfs obj (block_start keep + 1) end y at_is newest (omega (arith, from))
+                  (omega (arith, shows.0, place.to, near_is)) in
+                  let later = is.most y counted in absurd (most (omega (arith, later, key, above)))
+              | inr later ↦ let less = later.1 in absurd (omega (arith, is.place.to, near_is, later.0, less))
+            ]
+          ]
+      by_found end y (Some e) (past empty is) low key newest place rather =
+          let most : keep < e.base.key → ⊥ = low in
+          absurd (most (omega (arith, is.place.from, near_is, within)))
+
+      ends : (t x end : ℕ) (bytes : List ℕ) → i ≤ t → x < keep → x / BLOCK_BYTES ≡ keep / BLOCK_BYTES
+          → IsShown (Counts (fulls was) t) pfs obj size (x / BLOCK_BYTES) end bytes → end ≤ keep
+      ends t x end bytes late below here shown =
+          let now = (fresh_later (bytes_subject pfs obj end) i t (fulls was) bytes (known.1 end (omega arith)) late).0 shown.there in
+          let (y, newest, same) = newest_counted was.0 was.1 (bytes_subject pfs obj end) i bytes now in
+          let place = subst (λ (b : ℕ). EndsIn b end) here shown.place in
+          by_found end y found finds low (ap (λ (s : Subject). s.key) newest.version.about) newest place
+          (λ e counts there.
+          let bytes' = payload_of was.1 e in
+          shown.rather e.base.key bytes'
+          ((fresh_later (bytes_subject pfs obj e.base.key) i t (fulls was) bytes' (known.1 e.base.key (omega arith)) late).1
+          (counts_newest was.0 was.1 (bytes_subject pfs obj e.base.key) i e counts)) (subst (λ (b : ℕ). EndsIn b e.base.key) (sym here) there))
 
   -- where its block is put with what was read of it
-  pub cut_read : (begin keep : ℕ) (front : List ℕ) (es' : List FullElement) → end ≡ begin + BLOCK_BYTES → keep ≡ begin + length front → 1 ≤ length front
-      → length front ≤ BLOCK_BYTES → keep ≤ MOST_FILE_BYTES → IsContent mid.0 → AreRead i pfs obj begin front mid
-      → PutsBlock pfs obj i begin front (fulls mid) es'
-      → CutsBytes pfs obj i keep (fulls was) es'
-  cut_read begin keep front es' at_end sized some few small content read puts =
-      cut_put pfs obj i end (fulls was) (fulls mid) aligned known.0 closes begin keep front es' at_end sized some few
-      (settled (full_elements mid.0 mid.1) i (own_keys-sorted (full_elements mid.0 mid.1) (full_sorted mid.0 mid.1 content.rising)))
-      (λ n above. older_mid n) (read (inl (omega (arith, sized, small)))) puts
+  pub cut_read : (mid : Lists) (front : List ℕ) (es' : List FullElement) → keep ≡ block_start keep + length front → 1 ≤ length front
+      → IsContent was.0 → AreRead i pfs obj size (block_start keep) front was → ClosesBytes pfs obj i (keep + 1) (2 ^ 64) (fulls was) (fulls mid)
+      → PutsBlock pfs obj i (block_start keep) front (fulls mid) es' → CutsBytes pfs obj i size keep (fulls was) es'
+  cut_read mid front es' sized some content read closes puts =
+      cut_put pfs obj i size keep (fulls was) (fulls mid) within small closes (block_start keep) front es' (omega arith) sized some (omega (arith, sized))
+      (settled (full_elements was.0 was.1) i (own_keys-sorted (full_elements was.0 was.1) (full_sorted was.0 was.1 content.rising)))
+      known.1 (read (inl (omega (arith, sized, small)))) puts

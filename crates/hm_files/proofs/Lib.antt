@@ -2,11 +2,13 @@ pub mod ByteLemmas
 mod PieceLemmas
 mod ReadLemmas
 mod NearLemmas
+mod ClearLemmas
+pub mod ShownLemmas
 pub mod SpanLemmas
 mod CloseLemmas
 mod CloseToldLemmas
 mod VersionLemmas
-pub mod PutLemmas
+mod PutLemmas
 mod CutLemmas
 pub mod TellLemmas
 mod CutToldLemmas

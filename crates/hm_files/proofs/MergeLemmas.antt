@@ -54,7 +54,7 @@ module _ (C : Content) (pfs obj size at begin : ℕ) (piece read rest bytes : Li
     (sized : length read ≡ min (length bytes) (size - begin))
     (laid : bytes ≡ take (at - begin) (read ++ rest) ++ (piece ++ drop (at - begin + length piece) (read ++ rest)))
     (inside : at - begin + length piece ≤ length (read ++ rest)) (zeros : (k : ℕ) → slice_index rest k ≡ 0)
-    (are : AreBytesFrom C pfs obj begin read) where
+    (are : AreBytesFrom C pfs obj size begin read) where
   inner : ℕ
   inner = at - begin
 
@@ -84,21 +84,21 @@ module _ (C : Content) (pfs obj size at begin : ℕ) (piece read rest bytes : Li
       ∙ get_or-drop (at - begin + length piece) (read ++ rest) (x - at - length piece) 0
       ∙ ap (slice_index (read ++ rest)) (omega (arith, from, from_start))
 
-  shown : (x : ℕ) → begin ≤ x → x < size → x < begin + length bytes → IsFileByte C pfs obj x (slice_index (read ++ rest) (x - begin))
+  shown : (x : ℕ) → begin ≤ x → x < size → x < begin + length bytes → IsFileByte C pfs obj size x (slice_index (read ++ rest) (x - begin))
   shown x from below within =
       let k : ℕ = x - begin in
       let short : k < length read = omega (arith, from, below, within, sized) in
       let place : begin + k ≡ x = omega (arith, from) in
-      let byte : IsFileByte C pfs obj x (slice_index read k) =
-      subst (λ (y : ℕ). IsFileByte C pfs obj y (slice_index read k)) place (are.each k short) in
-      subst (λ (b : ℕ). IsFileByte C pfs obj x b) (sym (get_or_append_left read rest 0 k short)) byte
+      let byte : IsFileByte C pfs obj size x (slice_index read k) =
+      subst (λ (y : ℕ). IsFileByte C pfs obj size y (slice_index read k)) place (are.each k short) in
+      subst (λ (b : ℕ). IsFileByte C pfs obj size x b) (sym (get_or_append_left read rest 0 k short)) byte
 
   pub merged_laid : IsMerged C pfs obj size at begin piece bytes
   merged_laid = record {
     put = λ x from to. behind x from ∙ get_or_append_left piece (drop (at - begin + length piece) (read ++ rest)) 0 (x - at) (omega (arith, from, to));
     kept = λ x from below within out. elim out [
-      | inl before ↦ subst (λ (b : ℕ). IsFileByte C pfs obj x b) (sym (early x from before)) (shown x from below within)
-      | inr after ↦ subst (λ (b : ℕ). IsFileByte C pfs obj x b) (sym (later x after)) (shown x from below within)
+      | inl before ↦ subst (λ (b : ℕ). IsFileByte C pfs obj size x b) (sym (early x from before)) (shown x from below within)
+      | inr after ↦ subst (λ (b : ℕ). IsFileByte C pfs obj size x b) (sym (later x after)) (shown x from below within)
     ];
     zero = λ x from past' before.
         early x from before

@@ -1,5 +1,5 @@
 -- Bytes that are written over several blocks.
-use Rattle.std.proofs.Common.{◌≡◌, ℕ, ◌+◌, ◌-◌, ◌*◌, ◌%◌, ◌/◌, ◌^◌, ◌<◌, ◌≤◌, List, ◌++◌, drop, take, replicate, length, length-append, max, min}
+use Rattle.std.proofs.Common.{◌≡◌, ℕ, ◌+◌, ◌-◌, ◌*◌, ◌/◌, ◌<◌, ◌≤◌, List, ◌++◌, drop, take, replicate, length, length-append, max, min}
 use Rattle.std.proofs.Common.{refl, ap, sym, subst, ◌∙◌, inl, inr, arith}
 use Rattle.std.specs.Prelude.{◌⊎◌, Bool, true, false, if◌then◌else◌, nat_eq, slice_index}
 use Rattle.std.proofs.lemmas.Bool.{cases_lt}
@@ -10,50 +10,45 @@ use Rattle.hm_types.specs.Space.{Spends}
 use Rattle.hm_types.specs.declared.limits.TheConstants.{BLOCK_BYTES, MOST_FILE_BYTES}
 use Rattle.hm_types.specs.declared.space.TheConstants.{INSERT_ROOM}
 use Rattle.hm_types.specs.declared.zone.TheConstants.{LARGE_ZONE, SMALL_ZONE, TREE_ZONE}
-use Rattle.hm_key.specs.Counts.{Counts, bytes_subject}
+use Rattle.hm_key.specs.Counts.{Counts}
 use Rattle.hm_records.specs.View.{AreFileBytes, IsFileByte}
 use Rattle.hm_cursor.proofs.FollowLemmas.{follow_twice}
 use Rattle.hm_cursor.proofs.ViewsLemmas.{nothing_written, writes_again}
-use Rattle.hm_files.specs.Close.{ClosesBytes}
+use Rattle.hm_files.specs.Bytes.{block_start}
 use Rattle.hm_files.specs.Put.{CutsBytes, HasBlockRoom, IsBytesOf, block_space}
-use Rattle.hm_files.specs.Write.{ClearsWay, PutsBefore, PutsPiece, WritesBytes, block_start, reach, rounded_up, written}
-use Rattle.hm_files.proofs.CutLemmas.{AreBlocks, byte_closed, closed_others, zero_from}
-use Rattle.hm_files.proofs.PutLemmas.{closes_writes, steady}
+use Rattle.hm_files.specs.Write.{ClearsWay, PutsBefore, PutsPiece, WritesBytes, reach, written}
+use Rattle.hm_files.proofs.PutLemmas.{steady}
+use Rattle.hm_files.proofs.ShownLemmas.{byte_alike}
 
--- ---- what is past the size is closed
+-- ---- what the size hid is cut off
 
-module _ (pfs obj i size offset : ℕ) (es es' : List FullElement) where
+module _ (pfs obj i size offset : ℕ) where
   -- where the size lies in a block before
-  pub way_cut : size < block_start offset → offset ≤ MOST_FILE_BYTES → CutsBytes pfs obj i size es es' → ClearsWay pfs obj i size offset es es'
-  way_cut before small cuts = record {
+  pub way_cut : (es es' : List FullElement) → size < block_start offset → offset ≤ MOST_FILE_BYTES → CutsBytes pfs obj i size size es es'
+      → ClearsWay pfs obj i size offset es es'
+  way_cut es es' before small cuts = record {
     writes = cuts.writes;
-    kept = cuts.kept;
-    zero = λ t x late past below. cuts.zero t x late past (omega (arith, below, small));
-    past = λ t x late beyond near. cuts.zero t x late (omega (arith, beyond)) near;
+    kept = λ t after x v late reaches below early is. cuts.kept t after x v late reaches below is;
+    zero = λ t after x late past below. cuts.zero t after x late past (omega (arith, below, small));
+    ahead = λ t x v late below from is. absurd (omega (arith, below, from, before));
     fresh = λ n above older. cuts.fresh n (λ is. absurd (omega (arith, above, before, is))) older;
     others = cuts.others;
     follows = cuts.follows;
   }
 
   -- and where it does not
-  pub way_closed : (past : ℕ) → past ≡ rounded_up size → block_start offset ≤ size → AreBlocks es
-      → ClosesBytes pfs obj i (past + 1) (2 ^ 64) es es' → ClearsWay pfs obj i size offset es es'
-  way_closed past past_is from blocks closes = record {
-    writes = closes_writes pfs obj i (past + 1) (2 ^ 64) es es' closes;
-    kept = λ t x v late below is. byte_closed pfs obj i past es es' aligned blocks closes t x v late (omega (arith, below, within)) is;
-    zero = λ t x late above below. absurd (omega (arith, above, below, from));
-    past = λ t x late beyond near.
-        zero_from pfs obj i past es es' aligned blocks closes t past x late (omega (arith, beyond, past_is)) near
-        (λ n above low. absurd (omega (arith, above, low)));
-    fresh = λ n above older. closes.writes.fresh (bytes_subject pfs obj n) (λ x new. absurd new) older;
-    others = closed_others pfs obj i past es es' aligned blocks closes;
-    follows = closes.follows;
-  } where
-    aligned : past % BLOCK_BYTES ≡ 0
-    aligned = omega (arith, past_is)
-
-    within : size ≤ past
-    within = omega (arith, past_is)
+  pub way_clear : (es : List FullElement) → block_start offset ≤ size → ClearsWay pfs obj i size offset es es
+  way_clear es from = record {
+    writes = nothing_written pfs i (IsBytesOf pfs obj i) es;
+    kept = λ t after x v late reaches below early is.
+        byte_alike pfs obj size after x v (Counts es t) (Counts es t) (inr (omega (arith, early, from), omega (arith, early, from, reaches)))
+        (λ n bytes place. (λ h. h, λ h. h)) is;
+    zero = λ t after x late past below. absurd (omega (arith, past, below, from));
+    ahead = λ t x v late below above is. is;
+    fresh = λ n above older. older;
+    others = λ t s bytes differ. (λ h. h, λ h. h);
+    follows = λ other t follow. follow;
+  }
 
 -- ---- the room of several blocks
 
@@ -111,17 +106,15 @@ filled_part block from to len k is few inside below =
     ∙ (get_or-replicate BLOCK_BYTES k (slice_index block 0) 0 (omega (arith, below, few))
     ∙ sym (get_or-replicate len (from + k) (slice_index block 0) 0 (omega (arith, below, inside)))))
 
-module _ (pfs obj i size offset : ℕ) (new : List ℕ) where
+module _ (pfs obj i size after offset : ℕ) (new : List ℕ) where
   -- before the first one
-  pub puts_none : (es : List FullElement) → PutsBefore pfs obj i size offset new (offset / BLOCK_BYTES) es es
+  pub puts_none : (es : List FullElement) → PutsBefore pfs obj i size after offset new (offset / BLOCK_BYTES) es es
   puts_none es = record {
     writes = nothing_written pfs i (IsBytesOf pfs obj i) es;
     put = λ t x late from to. absurd (omega (arith, from, to));
-    kept = λ t x v late below out is. is;
+    kept = λ t x v late below from to out is. absurd (omega (arith, from, to));
     zero = λ t x late some. absurd (omega (arith, some));
-    before = λ t x v late below is. is;
-    past = λ t x late beyond behind below. absurd (omega (arith, behind, below));
-    after = λ t x v late above is. is;
+    beside = λ t any x v late out is. is;
     fresh = λ n above older. older;
     others = λ t s bytes differ. (λ h. h, λ h. h);
     follows = λ other t follow. follow;
@@ -132,51 +125,55 @@ module _ (pfs obj i size offset : ℕ) (new : List ℕ) where
       (last : block * BLOCK_BYTES < offset + length new) (at_is : at ≡ max offset (block * BLOCK_BYTES))
       (to_is : to ≡ min (offset + length new) (block * BLOCK_BYTES + BLOCK_BYTES)) (sized : length piece ≡ to - at)
       (same : (k : ℕ) → k < length piece → slice_index piece k ≡ slice_index new (at - offset + k))
-      (so_far : PutsBefore pfs obj i size offset new block es mid) (puts : PutsPiece pfs obj i size at piece mid es') where
+      (so_far : PutsBefore pfs obj i size after offset new block es mid) (puts : PutsPiece pfs obj i size after at piece mid es') where
     start : block_start at ≡ block * BLOCK_BYTES
     start = omega (arith, first, at_is)
 
     put_more : (t x : ℕ) → i ≤ t → offset ≤ x → x < reach offset (offset + length new) (block + 1)
-        → IsFileByte (Counts es' t) pfs obj x (slice_index new (x - offset))
+        → IsFileByte (Counts es' t) pfs obj after x (slice_index new (x - offset))
     put_more t x late from below = elim (cases_lt x at) [
       | inl early ↦
-          puts.beside t x (slice_index new (x - offset)) late (inl (omega (arith, early, from, at_is, start)))
+          puts.beside t after x (slice_index new (x - offset)) late (inl (omega (arith, early, from, at_is, start)))
           (so_far.put t x late from (omega (arith, early, from, at_is, below)))
       | inr later ↦
           let inside : x - at < length piece = omega (arith, later, below, at_is, to_is, sized, first) in
           let place : at - offset + (x - at) ≡ x - offset = omega (arith, later, at_is) in
-          subst (λ (b : ℕ). IsFileByte (Counts es' t) pfs obj x b) (same (x - at) inside ∙ ap (slice_index new) place)
+          subst (λ (b : ℕ). IsFileByte (Counts es' t) pfs obj after x b) (same (x - at) inside ∙ ap (slice_index new) place)
           (puts.put t x late later (omega (arith, inside, later)))
     ]
 
-    kept_more : (t x v : ℕ) → i ≤ t → x < size → (x < offset) ⊎ (reach offset (offset + length new) (block + 1) ≤ x)
-        → IsFileByte (Counts es t) pfs obj x v → IsFileByte (Counts es' t) pfs obj x v
-    kept_more t x v late below (inl early) is =
-        puts.kept t x v late below (inl (omega (arith, early, at_is))) (so_far.kept t x v late below (inl early) is)
-    kept_more t x v late below (inr later) is =
-        puts.kept t x v late below (inr (omega (arith, later, at_is, to_is, sized, first, last)))
-        (so_far.kept t x v late below (inr (omega (arith, later))) is)
+    kept_more : (t x v : ℕ) → i ≤ t → x < size → block_start offset ≤ x → x < (block + 1) * BLOCK_BYTES → (x < offset) ⊎ (offset + length new ≤ x)
+        → IsFileByte (Counts es t) pfs obj size x v → IsFileByte (Counts es' t) pfs obj after x v
+    kept_more t x v late below from to out is = elim (cases_lt x (block * BLOCK_BYTES)) [
+      | inl early ↦
+          puts.beside t after x v late (inl (omega (arith, early, start))) (so_far.kept t x v late below from early out is)
+      | inr here ↦
+          puts.kept t x v late below (omega (arith, here, start)) (omega (arith, to, start)) (outside out) (so_far.beside t size x v late (inr here) is)
+    ] where
+      outside : (x < offset) ⊎ (offset + length new ≤ x) → (x < at) ⊎ (at + length piece ≤ x)
+      outside (inl early) = inl (omega (arith, early, at_is))
+      outside (inr later) = inr (omega (arith, later, at_is, to_is, sized, first, last))
 
-    zero_more : (t x : ℕ) → i ≤ t → size ≤ x → block_start offset ≤ x → x < offset → IsFileByte (Counts es' t) pfs obj x 0
+    zero_more : (t x : ℕ) → i ≤ t → size ≤ x → block_start offset ≤ x → x < offset → IsFileByte (Counts es' t) pfs obj after x 0
     zero_more t x late past from below = elim (cases_lt (offset / BLOCK_BYTES) block) [
-      | inl done ↦ puts.beside t x 0 late (inl (omega (arith, below, done, start))) (so_far.zero t x late done past from below)
+      | inl done ↦ puts.beside t after x 0 late (inl (omega (arith, below, done, start))) (so_far.zero t x late done past from below)
       | inr now ↦ puts.zero t x late past (omega (arith, from, now, start)) (omega (arith, below, at_is))
     ]
 
-    past_more : (t x : ℕ) → i ≤ t → size ≤ x → offset + length new ≤ x → x < (block + 1) * BLOCK_BYTES → IsFileByte (Counts es' t) pfs obj x 0
-    past_more t x late beyond behind below =
-        puts.past t x late beyond (omega (arith, behind, sized, at_is, to_is, first, last)) (omega (arith, below, start))
+    beside_more : (t any x v : ℕ) → i ≤ t → (x < block_start offset) ⊎ ((block + 1) * BLOCK_BYTES ≤ x) → IsFileByte (Counts es t) pfs obj any x v
+        → IsFileByte (Counts es' t) pfs obj any x v
+    beside_more t any x v late (inl early) is =
+        puts.beside t any x v late (inl (omega (arith, early, first, start))) (so_far.beside t any x v late (inl early) is)
+    beside_more t any x v late (inr later) is =
+        puts.beside t any x v late (inr (omega (arith, later, start))) (so_far.beside t any x v late (inr (omega (arith, later))) is)
 
-    pub puts_more : PutsBefore pfs obj i size offset new (block + 1) es es'
+    pub puts_more : PutsBefore pfs obj i size after offset new (block + 1) es es'
     puts_more = record {
       writes = writes_again pfs i (IsBytesOf pfs obj i) es mid es' (steady pfs obj i) so_far.writes puts.writes;
       put = put_more;
       kept = kept_more;
       zero = λ t x late some past from below. zero_more t x late past from below;
-      before = λ t x v late below is. puts.beside t x v late (inl (omega (arith, below, first, start))) (so_far.before t x v late below is);
-      past = past_more;
-      after = λ t x v late above is.
-          puts.beside t x v late (inr (omega (arith, above, start))) (so_far.after t x v late (omega (arith, above)) is);
+      beside = beside_more;
       fresh = λ n above older. puts.fresh n (omega (arith, above, start)) (so_far.fresh n (omega (arith, above)) older);
       others = λ t s bytes differ.
           let one = so_far.others t s bytes differ in
@@ -185,117 +182,100 @@ module _ (pfs obj i size offset : ℕ) (new : List ℕ) where
       follows = follow_twice es mid es' so_far.follows puts.follows;
     }
 
-  -- ---- all of them
+-- ---- all of them
 
-  module _ (es mid es' : List FullElement) (some : 1 ≤ length new)
-      (kept : (t x v : ℕ) → i ≤ t → x < size → IsFileByte (Counts es t) pfs obj x v → IsFileByte (Counts mid t) pfs obj x v)
-      (zero : (t x : ℕ) → i ≤ t → size ≤ x → x < block_start offset → IsFileByte (Counts mid t) pfs obj x 0)
-      (puts : PutsBefore pfs obj i size offset new ((offset + length new - 1) / BLOCK_BYTES + 1) mid es') where
-    module _ (t : ℕ) (late : i ≤ t) (content : List ℕ) (file : AreFileBytes (Counts es t) pfs obj size content) where
-      abbrev zeros : List ℕ
-      zeros = replicate (offset - length content) 0
+module _ (pfs obj i size offset : ℕ) (new : List ℕ) (es mid es' : List FullElement) (some : 1 ≤ length new) (way : ClearsWay pfs obj i size offset es mid)
+    (puts : PutsBefore pfs obj i size (max size (offset + length new)) offset new ((offset + length new - 1) / BLOCK_BYTES + 1) mid es') where
+  abbrev after : ℕ
+  after = max size (offset + length new)
 
-      long : length (content ++ zeros) ≡ max size offset
-      long = omega (arith, length-append content zeros, length-replicate {A = ℕ} (offset - length content) 0, file.sized)
+  module _ (t : ℕ) (late : i ≤ t) (content : List ℕ) (file : AreFileBytes (Counts es t) pfs obj size content) where
+    abbrev zeros : List ℕ
+    zeros = replicate (offset - length content) 0
 
-      abbrev front : List ℕ
-      front = take offset (content ++ zeros)
+    long : length (content ++ zeros) ≡ max size offset
+    long = omega (arith, length-append content zeros, length-replicate {A = ℕ} (offset - length content) 0, file.sized)
 
-      front_long : length front ≡ offset
-      front_long = omega (arith, length-take offset (content ++ zeros), long)
+    abbrev front : List ℕ
+    front = take offset (content ++ zeros)
 
-      abbrev rest : List ℕ
-      rest = drop (offset + length new) content
+    front_long : length front ≡ offset
+    front_long = omega (arith, length-take offset (content ++ zeros), long)
 
-      early_byte : (x : ℕ) → x < offset → IsFileByte (Counts es' t) pfs obj x (slice_index front x)
-      early_byte x below =
-          subst (λ (b : ℕ). IsFileByte (Counts es' t) pfs obj x b) (sym (get_or-take offset (content ++ zeros) x 0 below)) (by_place (cases_lt x size))
-        where
-          is_zero : size ≤ x → slice_index (content ++ zeros) x ≡ 0
-          is_zero past =
-              get_or-append_right content zeros size x 0 file.sized past
-              ∙ get_or-replicate (offset - length content) (x - size) 0 0 (omega (arith, past, below, file.sized))
+    abbrev rest : List ℕ
+    rest = drop (offset + length new) content
 
-          zero_there : size ≤ x → (x < block_start offset) ⊎ (block_start offset ≤ x) → IsFileByte (Counts es' t) pfs obj x 0
-          zero_there past (inl early) = puts.before t x 0 late early (zero t x late past early)
-          zero_there past (inr from) = puts.zero t x late (omega (arith, some)) past from below
-
-          by_place : (x < size) ⊎ (size ≤ x) → IsFileByte (Counts es' t) pfs obj x (slice_index (content ++ zeros) x)
-          by_place (inl inside) =
-              subst (λ (b : ℕ). IsFileByte (Counts es' t) pfs obj x b)
-              (sym (get_or_append_left content zeros 0 x (omega (arith, inside, file.sized))))
-              (puts.kept t x (slice_index content x) late inside (inl below) (kept t x (slice_index content x) late inside (file.each x inside)))
-          by_place (inr past) =
-              subst (λ (b : ℕ). IsFileByte (Counts es' t) pfs obj x b) (sym (is_zero past)) (zero_there past (cases_lt x (block_start offset)))
-
-      later_byte : (x : ℕ) → offset ≤ x → x < max size (offset + length new) → IsFileByte (Counts es' t) pfs obj x (slice_index (new ++ rest) (x - offset))
-      later_byte x from below = elim (cases_lt x (offset + length new)) [
-        | inl inside ↦
-            subst (λ (b : ℕ). IsFileByte (Counts es' t) pfs obj x b)
-            (sym (get_or_append_left new rest 0 (x - offset) (omega (arith, from, inside))))
-            (puts.put t x late from (omega (arith, from, inside)))
-        | inr after ↦
-            let place : offset + length new + (x - offset - length new) ≡ x = omega (arith, after) in
-            let known : x < size = omega (arith, after, below) in
-            subst (λ (b : ℕ). IsFileByte (Counts es' t) pfs obj x b)
-            (sym (get_or-append_right new rest (length new) (x - offset) 0 refl (omega (arith, after))
-            ∙ get_or-drop (offset + length new) content (x - offset - length new) 0 ∙ ap (slice_index content) place))
-            (puts.kept t x (slice_index content x) late known (inr (omega (arith, after)))
-            (kept t x (slice_index content x) late known (file.each x known)))
+    -- a byte of the file that is not written is as it was
+    kept_byte : (x : ℕ) → x < size → (x < offset) ⊎ (offset + length new ≤ x) → IsFileByte (Counts es' t) pfs obj after x (slice_index content x)
+    kept_byte x inside out = elim (cases_lt x (block_start offset)) [
+      | inl early ↦
+          puts.beside t after x (slice_index content x) late (inl early)
+          (way.kept t after x (slice_index content x) late (omega arith) inside early (file.each x inside))
+      | inr from ↦ elim (cases_lt x (((offset + length new - 1) / BLOCK_BYTES + 1) * BLOCK_BYTES)) [
+        | inl within ↦
+            puts.kept t x (slice_index content x) late inside from within out (way.ahead t x (slice_index content x) late inside from (file.each x inside))
+        | inr beyond ↦
+            let same : size ≡ after = omega (arith, beyond, inside) in
+            subst (λ (n : ℕ). IsFileByte (Counts es' t) pfs obj n x (slice_index content x)) same
+            (puts.beside t size x (slice_index content x) late (inr beyond)
+            (way.ahead t x (slice_index content x) late inside from (file.each x inside)))
       ]
-
-      all_bytes : AreFileBytes (Counts es' t) pfs obj (max size (offset + length new)) (written offset new content)
-      all_bytes = record {
-        sized = omega (arith, length-append front (new ++ rest), front_long, length-append new rest, length-drop (offset + length new) content, file.sized);
-        each = λ x below. by_place x below (cases_lt x offset);
-      } where
-        by_place : (x : ℕ) → x < max size (offset + length new) → (x < offset) ⊎ (offset ≤ x)
-            → IsFileByte (Counts es' t) pfs obj x (slice_index (written offset new content) x)
-        by_place x below (inl early) =
-            subst (λ (b : ℕ). IsFileByte (Counts es' t) pfs obj x b)
-            (sym (get_or_append_left front (new ++ rest) 0 x (omega (arith, early, front_long)))) (early_byte x early)
-        by_place x below (inr from) =
-            subst (λ (b : ℕ). IsFileByte (Counts es' t) pfs obj x b)
-            (sym (get_or-append_right front (new ++ rest) offset x 0 front_long from)) (later_byte x from below)
-
-    pub all_written : (t : ℕ) (content : List ℕ) → i ≤ t → AreFileBytes (Counts es t) pfs obj size content
-        → AreFileBytes (Counts es' t) pfs obj (max size (offset + length new)) (written offset new content)
-    all_written t content late file = all_bytes t late content file
-
-  module _ (es es' : List FullElement) (some : 1 ≤ length new) where
-    -- past both ends a byte is zero where it was, or where the blocks with the new bytes have it
-    past_zero : (mid : List FullElement) (t x : ℕ) → i ≤ t → max size (offset + length new) ≤ x
-        → ((offset + length new - 1) / BLOCK_BYTES * BLOCK_BYTES + BLOCK_BYTES ≤ x → IsFileByte (Counts mid t) pfs obj x 0)
-        → PutsBefore pfs obj i size offset new ((offset + length new - 1) / BLOCK_BYTES + 1) mid es' → IsFileByte (Counts es' t) pfs obj x 0
-    past_zero mid t x late beyond there puts = elim (cases_lt x (((offset + length new - 1) / BLOCK_BYTES + 1) * BLOCK_BYTES)) [
-      | inl inside ↦ puts.past t x late (omega (arith, beyond)) (omega (arith, beyond)) inside
-      | inr above ↦ puts.after t x 0 late above (there (omega (arith, above)))
     ]
 
-    -- where they end by the size
-    pub written_at_once : offset + length new ≤ size → PutsBefore pfs obj i size offset new ((offset + length new - 1) / BLOCK_BYTES + 1) es es'
-        → WritesBytes pfs obj i size offset new es es'
-    written_at_once within puts = record {
-      writes = puts.writes;
-      holds = λ t content late file.
-          all_written es es es' some (λ t' x v late' below is. is) (λ t' x late' past below. absurd (omega (arith, past, below, within, some))) puts
-          t content late file;
-      past = λ t x late beyond near was.
-          past_zero es t x late beyond (λ above. elim was [ inl longer ↦ absurd (omega (arith, longer, within)) | inr zero ↦ zero ]) puts;
-      others = puts.others;
-      follows = puts.follows;
-    }
+    early_byte : (x : ℕ) → x < offset → IsFileByte (Counts es' t) pfs obj after x (slice_index front x)
+    early_byte x below =
+        subst (λ (b : ℕ). IsFileByte (Counts es' t) pfs obj after x b) (sym (get_or-take offset (content ++ zeros) x 0 below)) (by_place (cases_lt x size))
+      where
+        is_zero : size ≤ x → slice_index (content ++ zeros) x ≡ 0
+        is_zero past =
+            get_or-append_right content zeros size x 0 file.sized past
+            ∙ get_or-replicate (offset - length content) (x - size) 0 0 (omega (arith, past, below, file.sized))
 
-    -- and where what was past it is closed first
-    pub written_after : size < offset + length new → (mid : List FullElement) → ClearsWay pfs obj i size offset es mid
-        → PutsBefore pfs obj i size offset new ((offset + length new - 1) / BLOCK_BYTES + 1) mid es' → WritesBytes pfs obj i size offset new es es'
-    written_after longer mid way puts = record {
-      writes = writes_again pfs i (IsBytesOf pfs obj i) es mid es' (steady pfs obj i) way.writes puts.writes;
-      holds = λ t content late file. all_written es mid es' some way.kept way.zero puts t content late file;
-      past = λ t x late beyond near was. past_zero mid t x late beyond (λ above. way.past t x late (omega (arith, above, longer)) near) puts;
-      others = λ t s bytes differ.
-          let one = way.others t s bytes differ in
-          let two = puts.others t s bytes differ in
-          (λ h. one.0 (two.0 h), λ h. two.1 (one.1 h));
-      follows = follow_twice es mid es' way.follows puts.follows;
-    }
+        zero_there : size ≤ x → (x < block_start offset) ⊎ (block_start offset ≤ x) → IsFileByte (Counts es' t) pfs obj after x 0
+        zero_there past (inl early) = puts.beside t after x 0 late (inl early) (way.zero t after x late past early)
+        zero_there past (inr from) = puts.zero t x late (omega (arith, some)) past from below
+
+        by_place : (x < size) ⊎ (size ≤ x) → IsFileByte (Counts es' t) pfs obj after x (slice_index (content ++ zeros) x)
+        by_place (inl inside) =
+            subst (λ (b : ℕ). IsFileByte (Counts es' t) pfs obj after x b)
+            (sym (get_or_append_left content zeros 0 x (omega (arith, inside, file.sized)))) (kept_byte x inside (inl below))
+        by_place (inr past) =
+            subst (λ (b : ℕ). IsFileByte (Counts es' t) pfs obj after x b) (sym (is_zero past)) (zero_there past (cases_lt x (block_start offset)))
+
+    later_byte : (x : ℕ) → offset ≤ x → x < after → IsFileByte (Counts es' t) pfs obj after x (slice_index (new ++ rest) (x - offset))
+    later_byte x from below = elim (cases_lt x (offset + length new)) [
+      | inl inside ↦
+          subst (λ (b : ℕ). IsFileByte (Counts es' t) pfs obj after x b)
+          (sym (get_or_append_left new rest 0 (x - offset) (omega (arith, from, inside))))
+          (puts.put t x late from (omega (arith, from, inside)))
+      | inr beyond ↦
+          let place : offset + length new + (x - offset - length new) ≡ x = omega (arith, beyond) in
+          subst (λ (b : ℕ). IsFileByte (Counts es' t) pfs obj after x b)
+          (sym (get_or-append_right new rest (length new) (x - offset) 0 refl (omega (arith, beyond))
+          ∙ get_or-drop (offset + length new) content (x - offset - length new) 0 ∙ ap (slice_index content) place))
+          (kept_byte x (omega (arith, beyond, below)) (inr (omega (arith, beyond))))
+    ]
+
+    all_bytes : AreFileBytes (Counts es' t) pfs obj after (written offset new content)
+    all_bytes = record {
+      sized = omega (arith, length-append front (new ++ rest), front_long, length-append new rest, length-drop (offset + length new) content, file.sized);
+      each = λ x below. by_place x below (cases_lt x offset);
+    } where
+      by_place : (x : ℕ) → x < after → (x < offset) ⊎ (offset ≤ x) → IsFileByte (Counts es' t) pfs obj after x (slice_index (written offset new content) x)
+      by_place x below (inl early) =
+          subst (λ (b : ℕ). IsFileByte (Counts es' t) pfs obj after x b)
+          (sym (get_or_append_left front (new ++ rest) 0 x (omega (arith, early, front_long)))) (early_byte x early)
+      by_place x below (inr from) =
+          subst (λ (b : ℕ). IsFileByte (Counts es' t) pfs obj after x b)
+          (sym (get_or-append_right front (new ++ rest) offset x 0 front_long from)) (later_byte x from below)
+
+  pub bytes_written : WritesBytes pfs obj i size offset new es es'
+  bytes_written = record {
+    writes = writes_again pfs i (IsBytesOf pfs obj i) es mid es' (steady pfs obj i) way.writes puts.writes;
+    holds = λ t content late file. all_bytes t late content file;
+    others = λ t s bytes differ.
+        let one = way.others t s bytes differ in
+        let two = puts.others t s bytes differ in
+        (λ h. one.0 (two.0 h), λ h. two.1 (one.1 h));
+    follows = follow_twice es mid es' way.follows puts.follows;
+  }

@@ -7,19 +7,14 @@ use Rattle.hm_key.specs.declared.element.Element.{Element}
 use Rattle.hm_records.specs.View.{AreFileBytes, IsFileByte}
 use Rattle.hm_cursor.specs.Told.{Lists, fulls}
 
--- these are bytes of a file, from an offset on, of whatever size the file is
-pub record AreBytesFrom (counts : Content) (pfs obj offset : ℕ) (bytes : List ℕ) : Type 0 where
-  pub each : (i : ℕ) → i < length bytes → IsFileByte counts pfs obj (offset + i) (slice_index bytes i)
+-- these are bytes of a file of a size, from an offset on
+pub record AreBytesFrom (counts : Content) (pfs obj size offset : ℕ) (bytes : List ℕ) : Type 0 where
+  pub each : (i : ℕ) → i < length bytes → IsFileByte counts pfs obj size (offset + i) (slice_index bytes i)
 
--- A byte of a file as the first bytes show it that end after it: theirs, and zero before their first one
-pub data IsShownBy (end len : ℕ) (payload : List ℕ) (x byte : ℕ) : Type 0 where
-  inside : end ≤ x + len → byte ≡ slice_index payload (x + len - end) → IsShownBy end len payload x byte
-  before : x + len < end → byte ≡ 0 → IsShownBy end len payload x byte
-
--- these are bytes from an offset on, as the bytes show them that end at `end`
+-- these are bytes from an offset on, of a payload that ends at `end`
 pub record AreOf (end len : ℕ) (payload : List ℕ) (offset : ℕ) (bytes : List ℕ) : Type 0 where
   pub until : offset + length bytes ≤ end
-  pub each : (i : ℕ) → i < length bytes → IsShownBy end len payload (offset + i) (slice_index bytes i)
+  pub each : (i : ℕ) → i < length bytes → slice_index bytes i ≡ slice_index payload (offset + i + len - end)
 
 -- A store is asked by keys of 8 bytes. What it shows of a file is found up to `end` where a block more still has such a
 -- key, or where no element has a greater one.
@@ -30,10 +25,10 @@ IsReached es end = (end + BLOCK_BYTES ≤ 2 ^ 64) ⊎ ((e : Element) → Contain
 abbrev pub count_from : ℕ → ℕ → ℕ → ℕ
 count_from size offset asked = min asked (size - offset)
 
--- what is read of a file from an offset on, as of `t`
-abbrev pub AreRead : ℕ → ℕ → ℕ → ℕ → List ℕ → Lists → Type 0
-AreRead t pfs obj offset bytes lists =
-    IsReached lists.0 (offset + length bytes) → AreBytesFrom (Counts (fulls lists) t) pfs obj offset bytes
+-- what is read of a file of a size from an offset on, as of `t`
+abbrev pub AreRead : ℕ → ℕ → ℕ → ℕ → ℕ → List ℕ → Lists → Type 0
+AreRead t pfs obj size offset bytes lists =
+    IsReached lists.0 (offset + length bytes) → AreBytesFrom (Counts (fulls lists) t) pfs obj size offset bytes
 
 -- of whatever bytes the file has that the elements show, it is those from the offset on, at most so many as are asked for
 abbrev pub AreShown : ℕ → ℕ → ℕ → ℕ → ℕ → ℕ → List ℕ → Lists → Type 0
@@ -44,3 +39,7 @@ AreShown t pfs obj size offset asked bytes lists =
 -- where the block ends that has a byte
 abbrev pub block_end : ℕ → ℕ
 block_end x = x / BLOCK_BYTES * BLOCK_BYTES + BLOCK_BYTES
+
+-- where the block begins that has a byte
+abbrev pub block_start : ℕ → ℕ
+block_start x = x / BLOCK_BYTES * BLOCK_BYTES

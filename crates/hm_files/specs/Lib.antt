@@ -3,3 +3,4 @@ pub mod Close
 pub mod Put
 pub mod Write
 pub mod Source
+pub mod Nearest

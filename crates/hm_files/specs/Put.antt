@@ -24,13 +24,14 @@ pub record IsBytesOf (pfs obj i : ℕ) (x : FullElement) : Type 0 where
   pub made : x.key.create ≡ i
   pub payload : IsPayload x
 
--- From `i` on these bytes are the only ones that count in a block, from where it begins. For all other subjects the same
--- counts, as of any id. What followed before follows still, so that no two elements of one block were made by one id.
+-- From `i` on these bytes count in a block, from where it begins, and no others that did not count before. For all other
+-- subjects the same counts, as of any id. What followed before follows still, so that no two elements of one block were made by
+-- one id.
 pub record PutsBlock (pfs obj i begin : ℕ) (bytes : List ℕ) (es es' : List FullElement) : Type 0 where
   pub writes : WritesIn pfs i (IsBytesOf pfs obj i) es es'
   pub there : (t : ℕ) → i ≤ t → Counts es' t (bytes_subject pfs obj (begin + length bytes)) bytes
-  pub only : (t n : ℕ) (other : List ℕ) → i ≤ t → begin < n → n ≤ begin + BLOCK_BYTES → Counts es' t (bytes_subject pfs obj n) other
-      → n ≡ begin + length bytes
+  pub less : (t n : ℕ) (other : List ℕ) → i ≤ t → n ≢ begin + length bytes → Counts es' t (bytes_subject pfs obj n) other
+      → Counts es t (bytes_subject pfs obj n) other
   pub beside : (t : ℕ) (s : Subject) (other : List ℕ) → IsApart pfs obj (begin + 1) (begin + BLOCK_BYTES + 1) s → Counts es' t s other ↔ Counts es t s other
   pub fresh : (n : ℕ) → n ≢ begin + length bytes → IsFreshFor (bytes_subject pfs obj n) i es → IsFreshFor (bytes_subject pfs obj n) i es'
   pub follows : StillFollow es es'
@@ -39,11 +40,13 @@ pub record PutsBlock (pfs obj i begin : ℕ) (bytes : List ℕ) (es es' : List F
 abbrev pub KeepOthers : ℕ → ℕ → List FullElement → List FullElement → Type 0
 KeepOthers pfs obj es es' = (t : ℕ) (s : Subject) (bytes : List ℕ) → s ≢ bytes_subject pfs obj s.key → Counts es' t s bytes ↔ Counts es t s bytes
 
--- From `i` on a file's bytes before an offset are as they were, and from it on they are zero. New bytes end at the offset.
-pub record CutsBytes (pfs obj i keep : ℕ) (es es' : List FullElement) : Type 0 where
+-- From `i` on a file's bytes before an offset are as they were, whatever size it then has from there on, and from the offset on
+-- they are zero.
+pub record CutsBytes (pfs obj i size keep : ℕ) (es es' : List FullElement) : Type 0 where
   pub writes : WritesIn pfs i (IsBytesOf pfs obj i) es es'
-  pub kept : (t x byte : ℕ) → i ≤ t → x < keep → IsFileByte (Counts es t) pfs obj x byte → IsFileByte (Counts es' t) pfs obj x byte
-  pub zero : (t x : ℕ) → i ≤ t → keep ≤ x → x + BLOCK_BYTES < 2 ^ 64 → IsFileByte (Counts es' t) pfs obj x 0
+  pub kept : (t after x byte : ℕ) → i ≤ t → keep ≤ after → x < keep → IsFileByte (Counts es t) pfs obj size x byte
+      → IsFileByte (Counts es' t) pfs obj after x byte
+  pub zero : (t after x : ℕ) → i ≤ t → keep ≤ x → x + BLOCK_BYTES < 2 ^ 64 → IsFileByte (Counts es' t) pfs obj after x 0
   pub fresh : (n : ℕ) → n ≢ keep → IsFreshFor (bytes_subject pfs obj n) i es → IsFreshFor (bytes_subject pfs obj n) i es'
   pub others : KeepOthers pfs obj es es'
   pub follows : StillFollow es es'
@@ -54,7 +57,7 @@ pub record ResizesBytes (pfs obj i size new_size : ℕ) (es es' : List FullEleme
   pub writes : WritesIn pfs i (IsBytesOf pfs obj i) es es'
   pub resizes : (t : ℕ) (content : List ℕ) → i ≤ t → AreFileBytes (Counts es t) pfs obj size content
       → AreFileBytes (Counts es' t) pfs obj new_size (resized new_size content)
-  pub zero : (t x : ℕ) → i ≤ t → min size new_size ≤ x → x + BLOCK_BYTES < 2 ^ 64 → IsFileByte (Counts es' t) pfs obj x 0
+  pub zero : (t after x : ℕ) → i ≤ t → min size new_size ≤ x → x + BLOCK_BYTES < 2 ^ 64 → IsFileByte (Counts es' t) pfs obj after x 0
   pub others : KeepOthers pfs obj es es'
   pub follows : StillFollow es es'
 

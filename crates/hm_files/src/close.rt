@@ -1,14 +1,15 @@
 // Bytes that are closed.
-ghost use Rattle.std.specs.Prelude.{◌≡◌, ◌+◌, ◌^◌, OnOk};
+ghost use Rattle.std.specs.Prelude.{◌≡◌, ◌+◌, ◌%◌, ◌^◌, ◌<◌, OnOk};
 ghost use Rattle.hm_types.specs.Space.{nothing};
 ghost use Rattle.hm_key.specs.Members.{HasContentCause, InBalance, KeepsFrame, KeepsTold, SpendsAtMost};
 ghost use Rattle.hm_cursor.specs.Write.{StayPlaced, WritesStore};
-ghost use Rattle.hm_files.specs.Close.{AreOlderIn, ClosesBytes, RemovesBytes};
+ghost use Rattle.hm_files.specs.Close.{AreOlderIn, ClearsBlock, ClosesBytes, RemovesBytes};
 
 use crate::block::bytes_base;
+use crate::search::nearest_version;
 use hm_cursor::{close_versions, last_version};
 use hm_key::{ElementStore, Extents, HasElements, HasRoom};
-use hm_types::{Counted, Fault, Id, Obj, Pfs};
+use hm_types::{BLOCK_BYTES, Counted, Fault, Id, Obj, Pfs};
 
 /// Closes all bytes of an object that is removed, at an id above theirs: each that counts then. It
 /// takes two searches for each of them, and one for each key under which none counts. No payload
@@ -68,4 +69,39 @@ pub(crate) fn close_between<T: ElementStore + Extents>(
         key = element.base.key - 1;
     }
     Ok(())
+}
+
+/// Closes what shows in a block of a file of a size, from where it begins, but for what ends at
+/// `end`, at an id above those of all bytes of the block. It is found as `nearest_version` finds it,
+/// and closed by one search more.
+pub(crate) fn clear_block<T: ElementStore + Extents>(
+    store: &mut T,
+    pfs: Pfs,
+    obj: Obj,
+    size: u64,
+    begin: u64,
+    end: u64,
+    id: Id,
+) -> Result<(), Fault>
+    requires block { (begin % BLOCK_BYTES ≡ 0) × (begin + BLOCK_BYTES < 2 ^ 64) }
+    requires balanced { InBalance T.HasElements store.old }
+    requires older { AreOlderIn (T.elements store.old) (T.extents store.old)
+        pfs.0 obj.0 id.0 (begin + 1) }
+    ensures ok { OnOk result (WritesStore T.HasElements
+        (ClearsBlock pfs.0 obj.0 id.0 begin end) store.old store.new) }
+    ensures keeps { KeepsTold T.HasElements store.old store.new result }
+    ensures space { SpendsAtMost T.HasElements nothing store.old store.new }
+    ensures borrowed { KeepsFrame T.Counted store.old store.new }
+    ensures cause { HasContentCause T.HasElements store.old store.new result }
+{
+    let at = bytes_base(pfs, obj, begin + 1);
+    let last = begin + BLOCK_BYTES as u64;
+    let near = size.clamp(begin, last);
+    let Some(element) = nearest_version(store, &at, near, last, id)? else {
+        return Ok(());
+    };
+    if element.base.key == end {
+        return Ok(());
+    }
+    close_versions(store, &element.base, id)
 }

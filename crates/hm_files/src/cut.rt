@@ -1,5 +1,5 @@
 // Bytes that are cut off a file.
-ghost use Rattle.std.specs.Prelude.{◌≡◌, ◌+◌, ◌*◌, ◌^◌, ◌≤◌, OnOk};
+ghost use Rattle.std.specs.Prelude.{◌≡◌, ◌↔◌, ◌+◌, ◌*◌, ◌^◌, ◌<◌, ◌≤◌, IsSomeAnd, IsTrue, OnOk};
 ghost use Rattle.hm_key.specs.Members.{HasContentCause, InBalance, KeepsFrame, KeepsTold, SpendsAtMost};
 ghost use Rattle.hm_cursor.specs.Write.{WritesStore};
 ghost use Rattle.hm_files.specs.Close.{AreOlderIn};
@@ -9,8 +9,8 @@ use crate::block::bytes_base;
 use crate::close::close_between;
 use crate::put::put_block;
 use crate::read::read_all;
-use hm_cursor::last_version;
-use hm_key::{ElementStore, Extents, HasElements, HasRoom};
+use crate::search::nearest_version;
+use hm_key::{Element, ElementStore, Extents, HasElements, HasRoom};
 use hm_types::{BLOCK_BYTES, Counted, Fault, Id, MOST_FILE_BYTES, Obj, Pfs};
 
 /// Lets a file of a size have another one, at most 15,728,640, from an id of 1 or more on: what is
@@ -39,25 +39,27 @@ pub fn resize_bytes<T: ElementStore + Extents>(
     ensures borrowed { KeepsFrame T.Counted store.old store.new }
     ensures cause { HasContentCause T.HasElements store.old store.new result }
 {
-    cut_bytes(store, pfs, obj, size.min(new_size), id)
+    cut_bytes(store, pfs, obj, size, size.min(new_size), id)
 }
 
-/// Lets a file's bytes be zero from an offset on, at most 15,728,640, from an id of 1 or more on.
+/// Lets the bytes of a file of a size be zero from an offset on that is no greater, at most 15,728,640,
+/// from an id of 1 or more on.
 pub(crate) fn cut_bytes<T: ElementStore + Extents>(
     store: &mut T,
     pfs: Pfs,
     obj: Obj,
+    size: u64,
     keep: u64,
     id: Id,
 ) -> Result<(), Fault>
     requires id { 1 ≤ id.0 }
-    requires keep { keep ≤ MOST_FILE_BYTES }
+    requires keep { (keep ≤ size) × (keep ≤ MOST_FILE_BYTES) }
     requires balanced { InBalance T.HasElements store.old }
     requires older { AreOlderIn (T.elements store.old) (T.extents store.old)
         pfs.0 obj.0 id.0 0 }
     requires room { HasBlockRoom (T.room store.old) 1 }
     ensures ok { OnOk result (WritesStore T.HasElements
-        (CutsBytes pfs.0 obj.0 id.0 keep) store.old store.new) }
+        (CutsBytes pfs.0 obj.0 id.0 size keep) store.old store.new) }
     ensures keeps { KeepsTold T.HasElements store.old store.new result }
     ensures space { SpendsAtMost T.HasElements (block_space 1) store.old store.new }
     ensures borrowed { KeepsFrame T.Counted store.old store.new }
@@ -68,13 +70,25 @@ pub(crate) fn cut_bytes<T: ElementStore + Extents>(
     if begin == keep {
         return close_between(store, pfs, obj, keep + 1, u64::MAX, id);
     }
-    close_between(store, pfs, obj, begin + block + 1, u64::MAX, id)?;
-    let at = bytes_base(pfs, obj, begin + block);
-    let Some(last) = last_version(store, &at, keep + 1, id)? else {
-        return Ok(());
-    };
+    let last = begin + block;
+    let at = bytes_base(pfs, obj, begin + 1);
+    let shown = nearest_version(store, &at, size.min(last), last, id)?;
+    if !ends_after(&shown, keep) {
+        return close_between(store, pfs, obj, keep + 1, u64::MAX, id);
+    }
     let mut bytes = [0; BLOCK_BYTES];
     let front = &mut bytes[..(keep - begin) as usize];
-    read_all(store, pfs, obj, last.base.key, begin, id, front)?;
-    put_block(store, pfs, obj, begin, front, id)
+    read_all(store, pfs, obj, size, begin, id, front)?;
+    close_between(store, pfs, obj, keep + 1, u64::MAX, id)?;
+    put_block(store, pfs, obj, keep, begin, front, id)
+}
+
+// Whether an element was found, and ends after an offset.
+fn ends_after(found: &Option<Element>, offset: u64) -> bool
+    ensures { IsTrue result ↔ IsSomeAnd found.now (λ e. offset < e.base.key) }
+{
+    match found {
+        Some(element) => offset < element.base.key,
+        None => false,
+    }
 }

@@ -8,19 +8,20 @@ ghost use Rattle.hm_files.specs.Close.{AreOlderIn};
 ghost use Rattle.hm_files.specs.Put.{HasBlockRoom, PutsBlock, block_space, zone_of};
 
 use crate::block::bytes_base;
-use crate::close::close_between;
+use crate::close::clear_block;
 use hm_cursor::{add_version, renew_version, version_at};
 use hm_key::{Base, ElementStore, Extents, HasElements, HasRoom};
 use hm_types::{BLOCK_BYTES, Counted, Fault, Id, LARGE_ZONE, Obj, Pfs, SMALL_ZONE};
 
-/// Lets a block of a file have these bytes from an id on: at least one, at most a block. What it had
-/// is closed. It takes at most 40,960 bytes of zone 8, and those of the bytes in zone 10 for a whole
+/// Lets a block of a file of a size have these bytes from an id on: at least one, at most a block.
+/// What showed in it is closed. It takes at most 40,960 bytes of zone 8, and those of the bytes in zone 10 for a whole
 /// block, and in zone 11 else. The faults are those of the store; after one nothing is known of the
 /// content.
 pub(crate) fn put_block<T: ElementStore + Extents>(
     store: &mut T,
     pfs: Pfs,
     obj: Obj,
+    size: u64,
     begin: u64,
     bytes: &[u8],
     id: Id,
@@ -40,8 +41,7 @@ pub(crate) fn put_block<T: ElementStore + Extents>(
     ensures cause { HasContentCause T.HasElements store.old store.new result }
 {
     let end = begin + bytes.len() as u64;
-    close_between(store, pfs, obj, begin + 1, end - 1, id)?;
-    close_between(store, pfs, obj, end + 1, begin + BLOCK_BYTES as u64, id)?;
+    clear_block(store, pfs, obj, size, begin, end, id)?;
     let base = Base {
         create: id.0,
         ..bytes_base(pfs, obj, end)

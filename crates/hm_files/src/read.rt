@@ -1,5 +1,5 @@
 // Bytes that are read.
-ghost use Rattle.std.specs.Prelude.{◌≡◌, ◌+◌, ◌^◌, ◌<◌, ◌≤◌, IfOk, IfSome, OnOk, drop, length, min, replicate, take};
+ghost use Rattle.std.specs.Prelude.{◌≡◌, ◌+◌, ◌<◌, ◌≤◌, IfOk, IfSome, OnOk, drop, length, max, min, replicate, take};
 ghost use Rattle.hm_types.specs.Faults.{HasStoreCause};
 ghost use Rattle.hm_key.specs.Balance.{IsHeld, payload_of};
 ghost use Rattle.hm_key.specs.Element.{IsInBlock};
@@ -8,7 +8,7 @@ ghost use Rattle.hm_cursor.specs.Told.{OnBalanced};
 ghost use Rattle.hm_files.specs.Bytes.{AreOf, AreRead, AreShown, count_from};
 
 use crate::block::{bytes_base, end_of_block};
-use crate::search::first_near;
+use crate::search::nearest_version;
 use hm_key::{Element, ElementStore, Extents, HasElements, HasRoom};
 use hm_types::{BLOCK_BYTES, Counted, Fault, Id, Obj, Pfs};
 
@@ -16,9 +16,9 @@ use hm_types::{BLOCK_BYTES, Counted, Fault, Id, Obj, Pfs};
 /// how many these are: as many as the buffer has room for, up to the file's size, which its inode
 /// tells. Bytes that no call wrote are zero.
 ///
-/// Of each block they are looked for first where the file of that size ends it, and from there down:
-/// that takes a search for each length that the block had up to there by then. The faults are those
-/// of the store. It takes no memory of its own.
+/// Of each block those show that end last within the size, and where none do those that end first
+/// past it: where a call wrote the block's last byte they are found by one search. The faults are
+/// those of the store. It takes no memory of its own.
 pub fn read_bytes<T: ElementStore + Extents>(
     store: &mut T,
     pfs: Pfs,
@@ -31,7 +31,7 @@ pub fn read_bytes<T: ElementStore + Extents>(
     requires balanced { InBalance T.HasElements store.old }
     ensures count { IfOk result (λ count. count ≡ count_from size offset (length buffer.new)) }
     ensures ok { IfOk result (λ count. OnBalanced (T.elements store.old) (T.extents store.old)
-        (AreRead as_of.0 pfs.0 obj.0 offset (take count buffer.new))) }
+        (AreRead as_of.0 pfs.0 obj.0 size offset (take count buffer.new))) }
     ensures shown { IfOk result (λ count. OnBalanced (T.elements store.old) (T.extents store.old)
         (AreShown as_of.0 pfs.0 obj.0 size offset (length buffer.new) (take count buffer.new))) }
     ensures keeps { IsSame T.HasElements store.old store.new }
@@ -43,8 +43,7 @@ pub fn read_bytes<T: ElementStore + Extents>(
     Ok(count)
 }
 
-/// Fills a buffer with the bytes of a file from an offset on, whatever its size is: that says where
-/// the bytes of its blocks are looked for first.
+/// Fills a buffer with the bytes of a file of a size from an offset on, none of which is past its end.
 pub(crate) fn read_all<T: ElementStore + Extents>(
     store: &mut T,
     pfs: Pfs,
@@ -54,10 +53,10 @@ pub(crate) fn read_all<T: ElementStore + Extents>(
     as_of: Id,
     buffer: &mut [u8],
 ) -> Result<(), Fault>
-    requires fits { offset + length buffer.old < 2 ^ 64 }
+    requires fits { offset + length buffer.old ≤ max size offset }
     requires balanced { InBalance T.HasElements store.old }
     ensures ok { OnOk result (OnBalanced (T.elements store.old) (T.extents store.old)
-        (AreRead as_of.0 pfs.0 obj.0 offset buffer.new)) }
+        (AreRead as_of.0 pfs.0 obj.0 size offset buffer.new)) }
     ensures keeps { IsSame T.HasElements store.old store.new }
     ensures borrowed { KeepsFrame T.Counted store.old store.new }
     ensures cause { HasContentCause T.HasElements store.old store.new result }
@@ -71,7 +70,7 @@ pub(crate) fn read_all<T: ElementStore + Extents>(
 }
 
 // Puts the first bytes of a file from an offset on at the front of a buffer, and answers how many:
-// those of one element, or the zeros before the next one.
+// those of the element that shows in the block, or the zeros up to where others may stand.
 fn read_piece<T: ElementStore + Extents>(
     store: &mut T,
     pfs: Pfs,
@@ -82,29 +81,49 @@ fn read_piece<T: ElementStore + Extents>(
     buffer: &mut [u8],
 ) -> Result<usize, Fault>
     requires some { 1 ≤ length buffer.old }
-    requires fits { offset + length buffer.old < 2 ^ 64 }
+    requires fits { offset + length buffer.old ≤ size }
     requires balanced { InBalance T.HasElements store.old }
     ensures some { IfOk result (λ count. 1 ≤ count) }
     ensures fits { IfOk result (λ count. count ≤ length buffer.new) }
     ensures ok { IfOk result (λ count. OnBalanced (T.elements store.old) (T.extents store.old)
-        (AreRead as_of.0 pfs.0 obj.0 offset (take count buffer.new))) }
+        (AreRead as_of.0 pfs.0 obj.0 size offset (take count buffer.new))) }
     ensures keeps { IsSame T.HasElements store.old store.new }
     ensures borrowed { KeepsFrame T.Counted store.old store.new }
     ensures cause { HasContentCause T.HasElements store.old store.new result }
 {
+    let block = BLOCK_BYTES as u64;
+    let at = bytes_base(pfs, obj, offset / block * block + 1);
+    let near = size.min(end_of_block(offset));
     let last = end_of_block(offset + (buffer.len() as u64 - 1));
-    let at = bytes_base(pfs, obj, offset + 1);
-    let near = size.min(end_of_block(offset)).max(at.key);
-    match first_near(store, &at, near, last, as_of)? {
-        Some(element) => read_element(store, &element, offset, buffer),
-        None => {
-            clear(buffer);
-            Ok(buffer.len())
-        }
+    let Some(element) = nearest_version(store, &at, near, last, as_of)? else {
+        return Ok(clear_to(offset, last, buffer));
+    };
+    let begin = element.base.key - u64::from(element.len);
+    if offset < begin {
+        return Ok(clear_to(offset, begin, buffer));
     }
+    if element.base.key <= offset {
+        return Ok(clear_to(offset, end_of_block(offset), buffer));
+    }
+    read_element(store, &element, offset, buffer)
 }
 
-// The same of the element that has the first bytes which end after the offset.
+// Puts zeros for the bytes from an offset on at the front of a buffer, up to another one after it,
+// and answers how many.
+fn clear_to(offset: u64, to: u64, buffer: &mut [u8]) -> usize
+    requires some { 1 ≤ length buffer.old }
+    requires after { offset < to }
+    ensures some { 1 ≤ result }
+    ensures fits { result ≤ length buffer.new }
+    ensures until { offset + result ≤ to }
+    ensures zeros { take result buffer.new ≡ replicate result 0 }
+{
+    let count = shorter(buffer.len(), to - offset);
+    clear(&mut buffer[..count]);
+    count
+}
+
+// Puts the first bytes from an offset on of the element that has them at the front of a buffer.
 fn read_element<T: Extents>(
     store: &mut T,
     element: &Element,
@@ -113,6 +132,7 @@ fn read_element<T: Extents>(
 ) -> Result<usize, Fault>
     requires some { 1 ≤ length buffer.old }
     requires after { offset < element.now.base.key }
+    requires from { element.now.base.key ≤ offset + element.now.len }
     requires block { IsInBlock element.now.base.key element.now.len }
     requires held { IfSome (T.extents store.old) (λ xs. IsHeld xs element.now) }
     ensures some { IfOk result (λ count. 1 ≤ count) }
@@ -126,11 +146,6 @@ fn read_element<T: Extents>(
         (T.faults store.old) (T.faults store.new) result }
 {
     let begin = element.base.key - u64::from(element.len);
-    if offset < begin {
-        let count = shorter(buffer.len(), begin - offset);
-        clear(&mut buffer[..count]);
-        return Ok(count);
-    }
     let skip = (offset - begin) as usize;
     let count = shorter(buffer.len(), element.base.key - offset);
     read_payload_from(store, element, skip, &mut buffer[..count])?;

@@ -83,25 +83,59 @@ fn searches_to_cut(
     Ok(store.searches)
 }
 
+// The pieces of a block that grew to so many bytes by appends of one, was cut to nothing, and grew
+// again to some fewer.
+fn regrown(alloc: Global, count: u64, again: u64) -> Result<Vec<Piece>, Fail> {
+    let mut pieces = grown(alloc, count)?;
+    let cut = count.saturating_add(2);
+    if let Some(last) = pieces.last_mut() {
+        last.2 = cut;
+    }
+    for end in 1..=again {
+        let id = cut.saturating_add(end);
+        let closed = if end == again {
+            0
+        } else {
+            id.saturating_add(1)
+        };
+        pieces.push((end, id, closed, b'b', end as usize))?;
+    }
+    Ok(pieces)
+}
+
 #[test]
-fn each_length_of_a_block_takes_one_search(rt: HostRuntime) -> Result<(), Fail> {
+fn a_block_takes_as_many_searches_however_it_grew(rt: HostRuntime) -> Result<(), Fail> {
     let alloc = rt.alloc();
     for count in [2, 10, 100] {
         let pieces = grown(alloc, count)?;
         // Now, and as of the id that made half of the bytes.
-        assert_eq!(rt; searches_to_read(alloc, &pieces, count, LATE)?, count);
+        assert_eq!(rt; searches_to_read(alloc, &pieces, count, LATE)?, 1);
         assert_eq!(rt;
             searches_to_read(alloc, &pieces, count / 2, count / 2 + 1)?,
-            count / 2
+            1
         );
-        // Two of them to write: one to read what the block has, and one to close it.
-        assert_eq!(rt;
-            searches_to_write(alloc, &pieces, count, count)?,
-            2 * count + 4
-        );
-        assert_eq!(rt; searches_to_write(alloc, &pieces, count, 0)?, 2 * count + 1);
+        // To append, two to find what shows, for reading it and for closing it, one to close it, and one
+        // for what ends where the new bytes do.
+        assert_eq!(rt; searches_to_write(alloc, &pieces, count, count)?, 4);
+        assert_eq!(rt; searches_to_write(alloc, &pieces, count, 0)?, 3);
+        // A cut and a removal look at each length once.
         assert_eq!(rt; searches_to_cut(alloc, &pieces, count, Some(0))?, count + 1);
         assert_eq!(rt; searches_to_cut(alloc, &pieces, count, None)?, count + 2);
+    }
+    Ok(())
+}
+
+#[test]
+fn a_block_that_grew_again_takes_as_many(rt: HostRuntime) -> Result<(), Fail> {
+    let alloc = rt.alloc();
+    for count in [10, 100] {
+        let pieces = regrown(alloc, count, 5)?;
+        assert_eq!(rt; searches_to_read(alloc, &pieces, 5, LATE)?, 1);
+        assert_eq!(rt; searches_to_read(alloc, &pieces, count, count + 1)?, 1);
+        assert_eq!(rt; searches_to_write(alloc, &pieces, 5, 5)?, 4);
+        // Only the first append after the cut goes past what was there.
+        let empty = regrown(alloc, count, 0)?;
+        assert_eq!(rt; searches_to_write(alloc, &empty, 0, 0)?, 2 * count + 2);
     }
     Ok(())
 }
@@ -113,10 +147,10 @@ fn one_length_takes_as_many_searches_however_many_versions_it_has(
     let alloc = rt.alloc();
     for count in [2, 10, 100] {
         let pieces = overwritten(alloc, count)?;
-        assert_eq!(rt; searches_to_read(alloc, &pieces, count, LATE)?, 2);
-        assert_eq!(rt; searches_to_read(alloc, &pieces, count, 2)?, 2);
-        assert_eq!(rt; searches_to_write(alloc, &pieces, count, 0)?, 5);
-        assert_eq!(rt; searches_to_write(alloc, &pieces, count, count)?, 8);
+        assert_eq!(rt; searches_to_read(alloc, &pieces, count, LATE)?, 1);
+        assert_eq!(rt; searches_to_read(alloc, &pieces, count, 2)?, 1);
+        assert_eq!(rt; searches_to_write(alloc, &pieces, count, 0)?, 3);
+        assert_eq!(rt; searches_to_write(alloc, &pieces, count, count)?, 4);
     }
     Ok(())
 }

@@ -241,6 +241,40 @@ fn what_is_cut_off_shows_as_of_ids_before_alone(rt: HostRuntime) -> Result<(), F
             20,
             &[(1, b'd'), (2, 0)],
         ),
+        // Nor does a longer write.
+        (
+            &[
+                (Step::Write(20_000, 10_000, 30_000, b'x'), 20),
+                (Step::Resize(40_000, 49_155), 21),
+            ],
+            49_155,
+            39_999,
+            9_156,
+            21,
+            &[(1, b'x'), (9_155, 0)],
+        ),
+        (
+            &[
+                (Step::Write(20_000, 10_000, 30_000, b'x'), 20),
+                (Step::Write(40_000, 49_154, 1, b'y'), 21),
+            ],
+            49_155,
+            49_151,
+            5,
+            21,
+            &[(3, 0), (1, b'y')],
+        ),
+        (
+            &[
+                (Step::Write(49_153, 49_153, 1, b'x'), 20),
+                (Step::Resize(49_154, 49_160), 21),
+            ],
+            49_160,
+            49_152,
+            9,
+            21,
+            &[(1, b'd'), (1, b'x'), (6, 0)],
+        ),
         // A removed file has no open bytes.
         (&[(Step::Remove, 20)], 9, 0, 1, 19, &[(1, b'c')]),
         (&[(Step::Remove, 20)], 9, 0, 1, 20, &[(1, 0)]),
@@ -334,15 +368,6 @@ fn written_bytes_stand_beside_those_of_their_blocks(rt: HostRuntime) -> Result<(
             8,
             60_010,
             [(2, b'c'), (39_990, 0), (20_000, b'x')].as_slice(),
-        ),
-        (
-            20_000,
-            10_000,
-            30_000,
-            49_155,
-            39_999,
-            9_156,
-            [(1, b'x'), (9_155, 0)].as_slice(),
         ),
     ] {
         let write = [(Step::Write(size, at, count, b'x'), 20)];

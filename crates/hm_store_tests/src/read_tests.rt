@@ -137,19 +137,24 @@ fn bytes_are_those_of_the_version_that_counts(rt: HostRuntime) -> Result<(), Fai
             "{offset} of {size} as of {as_of}"
         );
     }
-    // The bytes that end first hide those behind them.
-    for (offset, asked, as_of, runs) in [
-        (0, 8, 2, [(4, b'a'), (4, 0)].as_slice()),
-        (0, 8, 3, [(4, b'a'), (4, b'b')].as_slice()),
-        (2, 8, 5, [(2, b'a'), (4, b'b'), (2, 0)].as_slice()),
-        (3, 2, 6, [(1, b'a'), (1, b'c')].as_slice()),
-        (7, 2, 6, [(1, b'c'), (1, 0)].as_slice()),
-        (16_383, 3, 6, [(1, 0), (2, b'd')].as_slice()),
-        (16_389, 3, 6, [(1, b'd'), (2, 0)].as_slice()),
+    // Of the bytes of a block the last show that end within the size, and where none do the first past it.
+    for (size, offset, asked, as_of, runs) in [
+        (20_000, 0, 8, 2, [(4, b'a'), (4, 0)].as_slice()),
+        (20_000, 0, 9, 3, [(8, b'b'), (1, 0)].as_slice()),
+        (20_000, 2, 8, 5, [(6, b'b'), (2, 0)].as_slice()),
+        (20_000, 3, 2, 6, [(2, b'c')].as_slice()),
+        (20_000, 7, 2, 6, [(1, b'c'), (1, 0)].as_slice()),
+        (20_000, 16_383, 3, 6, [(1, 0), (2, b'd')].as_slice()),
+        (20_000, 16_389, 3, 6, [(1, b'd'), (2, 0)].as_slice()),
+        (8, 0, 9, 6, [(8, b'c')].as_slice()),
+        (7, 0, 9, 6, [(4, b'a'), (3, 0)].as_slice()),
+        (4, 0, 9, 6, [(4, b'a')].as_slice()),
+        (3, 0, 9, 6, [(3, b'a')].as_slice()),
+        (16_386, 16_383, 9, 6, [(1, 0), (2, b'd')].as_slice()),
     ] {
         assert!(rt;
-            reads(rt.alloc(), &FORGED, 20_000, offset, asked, as_of, runs)?,
-            "{offset} as of {as_of}"
+            reads(rt.alloc(), &FORGED, size, offset, asked, as_of, runs)?,
+            "{offset} of {size} as of {as_of}"
         );
     }
     Ok(())
@@ -176,15 +181,15 @@ fn limited(alloc: Global, left: u64, offset: u64) -> Result<Result<usize, Fault>
 
 #[test]
 fn a_read_takes_a_search_for_what_it_shows_and_few_more(rt: HostRuntime) -> Result<(), Fail> {
-    // Those that end with the block, the closed ones that end at 5, none before these, and the payload.
-    for left in 0..=3 {
+    // Those that end with the block, and the payload.
+    for left in 0..=1 {
         assert_eq!(rt;
             limited(rt.alloc(), left, 1)?,
             Err(Fault::NoMemory),
             "{left}"
         );
     }
-    assert_eq!(rt; limited(rt.alloc(), 4, 1)?, Ok(2));
+    assert_eq!(rt; limited(rt.alloc(), 2, 1)?, Ok(2));
     // Nothing is seen in the second block.
     assert_eq!(rt; limited(rt.alloc(), 0, 20_000)?, Err(Fault::NoMemory));
     assert_eq!(rt; limited(rt.alloc(), 1, 20_000)?, Ok(2));

@@ -19,8 +19,8 @@ returns-clause-ok g c =
     let new = c.args.new_size in
     let old = c.args.store.now in
     on_ok_weaker c.cut_bytes.result
-    (λ wrote. writes_so elements extents (CutsBytes pfs obj i c.min.result) (ResizesBytes pfs obj i size new) (λ lists. Unit {0}) old c.cut_bytes.new.store
+    (λ wrote. writes_so elements extents (CutsBytes pfs obj i size c.min.result) (ResizesBytes pfs obj i size new) (λ lists. Unit {0}) old c.cut_bytes.new.store
     (nothing_known (content_of (elements old) (extents old)))
     (λ was es' known cuts. bytes_resized pfs obj i size new (fulls was) es' c.requires.size
-    (subst (λ (n : ℕ). CutsBytes pfs obj i n (fulls was) es') c.min.ensures cuts)) wrote)
+    (subst (λ (n : ℕ). CutsBytes pfs obj i size n (fulls was) es') c.min.ensures cuts)) wrote)
     c.cut_bytes.ensures.ok

@@ -1,4 +1,4 @@
-use Rattle.std.proofs.Common.{◌≡◌, ◌+◌, ◌-◌, ℕ, Some, arith, length, subst}
+use Rattle.std.proofs.Common.{◌+◌, Some, length, subst}
 use Rattle.std.proofs.lemmas.Result.{on_ok_weaker}
 use Rattle.hm_key.specs.Balance.{content_of}
 use Rattle.hm_key.specs.Counts.{Subject, subject_of}
@@ -7,7 +7,7 @@ use Rattle.hm_key.specs.declared.base.Base.{Base}
 use Rattle.hm_cursor.specs.Told.{Lists, fulls}
 use Rattle.hm_cursor.specs.Write.{FollowWith, Rewrites}
 use Rattle.hm_cursor.proofs.CallLemmas.{Change, Then, writes_both, writes_ok, writes_so}
-use Rattle.hm_files.specs.Close.{AreOlder, ClosesBytes}
+use Rattle.hm_files.specs.Close.{AreOlder, ClearsBlock}
 use Rattle.hm_files.specs.Put.{PutsBlock}
 use Rattle.hm_files.proofs.CutLemmas.{AreBlocks}
 use Rattle.hm_files.proofs.FollowLemmas.{block_follows}
@@ -32,30 +32,23 @@ returns-clause-ok g c =
     let begin = c.args.begin in
     let bytes = c.args.bytes.now in
     let old = c.args.store.now in
-    let low = c.close_between.new.store in
-    let high = c.close_between-2.new.store in
+    let mid = c.clear_block.new.store in
     let new = c.put_version.new.store in
-    let end = begin + length bytes in
-    let One : Change = ClosesBytes pfs obj i (begin + 1) (end - 1 + 1) in
-    let Two : Change = ClosesBytes pfs obj i (end + 1) (begin + 16384 + 1) in
+    let One : Change = ClearsBlock pfs obj i begin (begin + length bytes) in
     let s = subject_of (key_of (record c.bytes_base.result { create = i })) in
     let New : Change = Rewrites s (Some bytes) i in
     let Follow : Change = FollowWith s bytes i in
-    let Three : Change = λ es es'. New es es' × Follow es es' in
+    let Two : Change = λ es es'. New es es' × Follow es es' in
     let Known : Lists → Type 0 = λ lists. AreBlocks (fulls lists) × AreOlder pfs obj i (begin + 1) (fulls lists) in
-    let same : end - 1 + 1 ≡ end = let some = c.requires.sized.0 in omega (arith, some) in
     on_ok_weaker c.put_version.result
-    (λ put. writes_so elements extents (Then (Then One Two) Three) (PutsBlock pfs obj i begin bytes) Known old new
+    (λ put. writes_so elements extents (Then One Two) (PutsBlock pfs obj i begin bytes) Known old new
     (known_two (λ lists. AreBlocks (fulls lists)) (λ lists. AreOlder pfs obj i (begin + 1) (fulls lists)) (content_of (elements old) (extents old))
     (known_blocks (elements old) (extents old) (g.met.T.ElementStore.sorted old) (g.met.T.Extents.live old) c.requires.balanced) c.requires.older)
     (λ was es' known steps.
-    let (mid, both, third) = steps in
-    let (first, one, two) = both in
-    let below = subst (λ (n : ℕ). ClosesBytes pfs obj i (begin + 1) n (fulls was) first) same one in
-    block_put pfs obj i begin bytes (fulls was) first mid es' c.requires.block.0 c.requires.sized.0 c.requires.sized.1 below two
-    (subst (λ (s : Subject). Rewrites s (Some bytes) i mid es') c.bytes_base.ensures.about third.0)
-    (block_follows pfs obj i begin bytes (fulls was) first mid es' c.requires.block.0 c.requires.sized.0 c.requires.sized.1 known.0 known.1 below two
-    (subst (λ (s : Subject). FollowWith s bytes i mid es') c.bytes_base.ensures.about third.1)))
-    (writes_both elements extents (Then One Two) Three old high new
-    (writes_both elements extents One Two old low high c.in_ok-close_between.ensures.ok c.in_ok-close_between-2.ensures.ok) put))
-    (writes_ok elements extents New Follow high new c.put_version.result c.put_version.ensures.ok c.put_version.ensures.follows)
+    let (mid, clears, second) = steps in
+    let wrote = subst (λ (s : Subject). Rewrites s (Some bytes) i mid es') c.bytes_base.ensures.about second.0 in
+    block_put pfs obj i begin bytes (fulls was) mid es' c.requires.block.0 c.requires.sized.0 c.requires.sized.1 clears wrote
+    (block_follows pfs obj i begin bytes (fulls was) mid es' c.requires.block.0 c.requires.sized.0 c.requires.sized.1 known.0 known.1 clears
+    (subst (λ (s : Subject). FollowWith s bytes i mid es') c.bytes_base.ensures.about second.1)))
+    (writes_both elements extents One Two old mid new c.in_ok-clear_block.ensures.ok put))
+    (writes_ok elements extents New Follow mid new c.put_version.result c.put_version.ensures.ok c.put_version.ensures.follows)

@@ -19,12 +19,13 @@ loop-done-preserved g c =
       most = omega (arith, read.fits, rest, long, was.most);
       read =
           read_more (g.T.HasElements.elements c.args.store.now) (g.T.HasRoom.extents c.args.store.now) c.args.as_of.0 c.args.pfs.0 c.args.obj.0
-          c.args.offset done (take done buffer) (take count c.read_piece.new.buffer) _
+          c.args.size c.args.offset done (take done buffer) (take count c.read_piece.new.buffer) _
           (length-take-le done buffer (omega (arith, long, was.most)))
           (front_put done (length buffer - done) buffer c.read_piece.new.buffer count rest (omega (arith, long, was.most)) (omega (arith, read.fits, rest)))
           was.read
           (still_read (g.T.HasElements.elements c.loop-done.store) (g.T.HasElements.elements c.args.store.now) (g.T.HasRoom.extents c.loop-done.store)
-          (g.T.HasRoom.extents c.args.store.now) (AreRead c.args.as_of.0 c.args.pfs.0 c.args.obj.0 (c.args.offset + done) (take count c.read_piece.new.buffer))
+          (g.T.HasRoom.extents c.args.store.now)
+          (AreRead c.args.as_of.0 c.args.pfs.0 c.args.obj.0 c.args.size (c.args.offset + done) (take count c.read_piece.new.buffer))
           was.keeps.elements was.keeps.extents read.ok);
       keeps = search (rules, same_both);
       name = search rules;

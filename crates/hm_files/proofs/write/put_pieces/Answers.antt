@@ -6,7 +6,8 @@ use Rattle.hm_cursor.specs.Write.{Writes}
 use Rattle.hm_cursor.proofs.CallLemmas.{known_after, writes_none}
 use Rattle.hm_files.specs.Close.{AreOlder}
 use Rattle.hm_files.specs.Source.{bytes_of}
-use Rattle.hm_files.specs.Write.{PutsBefore, PutsPiece, block_count, block_start}
+use Rattle.hm_files.specs.Bytes.{block_start}
+use Rattle.hm_files.specs.Write.{PutsBefore, PutsPiece, block_count}
 use Rattle.hm_files.proofs.SpanLemmas.{puts_more, puts_none, room_left, spends_more, spends_none}
 use Rattle.hm_files.proofs.TellLemmas.{known_elements, writes_via}
 use Rattle.hm_files.proofs.write.put_pieces.Goals as goal
@@ -25,8 +26,8 @@ loop-next-init g c =
     record {
       from = omega arith;
       to = omega (arith, c.requires.some);
-      wrote = writes_none elements extents (PutsBefore pfs obj i size offset bytes (offset / 16384)) (λ lists. IsBalanced lists.0 lists.1) old old refl refl
-          c.requires.balanced (λ was known. puts_none pfs obj i size offset bytes (fulls was));
+      wrote = writes_none elements extents (PutsBefore pfs obj i size c.args.after offset bytes (offset / 16384)) (λ lists. IsBalanced lists.0 lists.1)
+          old old refl refl c.requires.balanced (λ was known. puts_none pfs obj i size c.args.after offset bytes (fulls was));
       balanced = c.requires.balanced;
       elements = refl;
       extents = refl;
@@ -49,7 +50,8 @@ write_piece-requires-clause-older g c =
     let at = c.max-at.result in
     let was = c.loop-next.invariant in
     let start : block_start at ≡ next * 16384 = omega (arith, c.max-at.ensures, was.from) in
-    known_after elements extents (PutsBefore pfs obj i c.args.size offset bytes next) (λ lists. AreOlder pfs obj i (block_start offset + 1) (fulls lists))
+    known_after elements extents (PutsBefore pfs obj i c.args.size c.args.after offset bytes next)
+    (λ lists. AreOlder pfs obj i (block_start offset + 1) (fulls lists))
     (AreOlder pfs obj i (block_start at + 1)) c.args.store.now c.loop-next.store was.elements was.extents c.requires.balanced c.requires.older
     (λ lists es' known puts n above. puts.fresh n (omega (arith, above, start)) (known n (omega (arith, above, start, was.from)))) was.wrote
 
@@ -94,9 +96,10 @@ loop-next-preserved g c =
       from = omega (arith, was.from);
       to = omega (arith, c.loop-next-test.true);
       wrote =
-          writes_via elements extents (PutsBefore pfs obj i size offset bytes next) (PutsPiece pfs obj i size at piece)
-          (PutsBefore pfs obj i size offset bytes (next + 1)) (λ lists. IsBalanced lists.0 lists.1) (λ lists. IsContent lists.0) old mid new
-          (λ lists between es' known content balanced so_far puts. puts_more pfs obj i size offset bytes next at to piece (fulls lists) (fulls between) es'
+          writes_via elements extents (PutsBefore pfs obj i size c.args.after offset bytes next) (PutsPiece pfs obj i size c.args.after at piece)
+          (PutsBefore pfs obj i size c.args.after offset bytes (next + 1)) (λ lists. IsBalanced lists.0 lists.1) (λ lists. IsContent lists.0) old mid new
+          (λ lists between es' known content balanced so_far puts.
+          puts_more pfs obj i size c.args.after offset bytes next at to piece (fulls lists) (fulls between) es'
           was.from last c.max-at.ensures to_is sized (λ k below. c.piece-piece.ensures.same k (omega (arith, below, c.piece-piece.ensures.long))) so_far puts)
           c.requires.balanced (known_elements (elements mid) (extents mid) IsContent (g.met.T.ElementStore.sorted mid)) was.wrote put.ok;
       balanced = search rules;
@@ -117,7 +120,7 @@ returns-clause-ok g c =
     let was = c.loop-next.invariant in
     let all : c.loop-next.next ≡ (offset + length bytes - 1) / 16384 + 1 = omega (arith, was.to, c.loop-next-test.false) in
     subst (λ (n : ℕ). Writes g.T.HasElements.elements g.T.HasRoom.extents
-    (PutsBefore c.args.pfs.0 c.args.obj.0 c.args.id.0 c.args.size offset bytes n) c.args.store.now c.loop-next.store) all was.wrote
+    (PutsBefore c.args.pfs.0 c.args.obj.0 c.args.id.0 c.args.size c.args.after offset bytes n) c.args.store.now c.loop-next.store) all was.wrote
 
 pub returns-clause-space : goal.returns-clause-space
 returns-clause-space g c =

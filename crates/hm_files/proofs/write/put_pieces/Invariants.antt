@@ -13,7 +13,8 @@ abbrev pub invariant-loop-next : goal.invariant-loop-next
 invariant-loop-next g l = record {
   from : l.fn.offset / 16384 ≤ l.next;
   to : l.next ≤ l.blocks;
-  wrote : Writes g.T.HasElements.elements g.T.HasRoom.extents (PutsBefore l.fn.pfs.0 l.fn.obj.0 l.fn.id.0 l.fn.size l.fn.offset (bytes_of l.fn.source) l.next)
+  wrote : Writes g.T.HasElements.elements g.T.HasRoom.extents
+      (PutsBefore l.fn.pfs.0 l.fn.obj.0 l.fn.id.0 l.fn.size l.fn.after l.fn.offset (bytes_of l.fn.source) l.next)
       l.fn.store l.store;
   balanced : Balanced (g.T.HasElements.elements l.store) (g.T.HasRoom.extents l.store);
   elements : is_some (g.T.HasElements.elements l.store) ≡ is_some (g.T.HasElements.elements l.fn.store);
