@@ -149,8 +149,8 @@ fn a_listing_takes_two_searches_for_each_name(rt: HostRuntime) -> Result<(), Fai
 fn file_bytes_take_a_few_searches_for_each_block(rt: HostRuntime) -> Result<(), Fail> {
     let lines = ["touch /f", "fill /f 0 65536 61", "touch /g"];
     for (line, searches, writes) in [
-        ("cat /f 0 16384", 7, 0),
-        ("write /f 0 61", 10, 3),
+        ("cat /f 0 16384", 6, 0),
+        ("write /f 0 61", 9, 3),
         ("fill /f 0 65536 61", 14, 12),
         ("rm /f", 26, 6),
     ] {
