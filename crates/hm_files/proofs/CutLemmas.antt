@@ -16,7 +16,7 @@ use Rattle.hm_records.proofs.ObjectLemmas.{byte_one}
 use Rattle.hm_cursor.specs.Views.{CameAs, WritesIn}
 use Rattle.hm_cursor.proofs.FollowLemmas.{follow_twice}
 use Rattle.hm_cursor.proofs.ViewsLemmas.{fresh_later, writes_again}
-use Rattle.hm_files.specs.Bytes.{AreBytesFrom}
+use Rattle.hm_files.specs.Bytes.{AreBytesFrom, block_end}
 use Rattle.hm_files.specs.Close.{AreOlder, ClosesBytes}
 use Rattle.hm_files.specs.Put.{CutsBytes, IsBytesOf, KeepOthers, PutsBlock, ResizesBytes}
 use Rattle.hm_types.specs.Bytes.{resized}
@@ -45,8 +45,8 @@ blocks_still pfs obj i es es' writes blocks x has type = by_origin (writes.came 
       (blocks e there (sym (ap (λ (k : Key). k.rec_type) key) ∙ type)))
   by_origin (inr new) = new.payload.file_bytes type
 
-module _ (pfs obj i size keep : ℕ) (es mid : List FullElement) (within : keep ≤ size) (small : keep ≤ MOST_FILE_BYTES)
-    (closes : ClosesBytes pfs obj i (keep + 1) (2 ^ 64) es mid) where
+module _ (pfs obj i size keep until : ℕ) (es mid : List FullElement) (within : keep ≤ size) (ahead : block_end keep ≤ until)
+    (closes : ClosesBytes pfs obj i (keep + 1) (until + 1) es mid) where
   closed_writes : WritesIn pfs i (IsBytesOf pfs obj i) es mid
   closed_writes = closes_writes pfs obj i es mid closes.writes
 
@@ -55,9 +55,9 @@ module _ (pfs obj i size keep : ℕ) (es mid : List FullElement) (within : keep 
   same_low t n bytes low = closes.beside t (bytes_subject pfs obj n) bytes (λ m up down is. absurd (omega (arith, low, up, ap (λ (s : Subject). s.key) is)))
 
   -- what is left past it is beyond all offsets that are asked for
-  left_low : (t n : ℕ) (bytes : List ℕ) → i ≤ t → Counts mid t (bytes_subject pfs obj n) bytes → n < 2 ^ 64 → n ≤ keep
+  left_low : (t n : ℕ) (bytes : List ℕ) → i ≤ t → Counts mid t (bytes_subject pfs obj n) bytes → n ≤ until → n ≤ keep
   left_low t n bytes late counts near = elim (cases_lt keep n) [
-    | inl high ↦ absurd (closes.gone t n late (omega (arith, high)) near bytes counts)
+    | inl high ↦ absurd (closes.gone t n late (omega (arith, high)) (omega (arith, near)) bytes counts)
     | inr low ↦ low
   ]
 
@@ -80,7 +80,7 @@ module _ (pfs obj i size keep : ℕ) (es mid : List FullElement) (within : keep 
     there = (same_low t end bytes low).1 shown.there;
     place = shown.place;
     rather = λ other others counts place.
-        let lower : other ≤ keep = left_low t other others late counts (let to = place.to in omega (arith, to, here, small)) in
+        let lower : other ≤ keep = left_low t other others late counts (let to = place.to in omega (arith, to, here, ahead)) in
         elim (shown.rather other others ((same_low t other others lower).0 counts) place) [
           | inl rather ↦ inl (omega (arith, low, reaches), inl (elim rather.1 [ inl last ↦ last | inr past ↦ absurd (omega (arith, past, lower, within)) ]))
           | inr past ↦ let above = past.0 in absurd (omega (arith, above, low, within))
@@ -98,10 +98,10 @@ module _ (pfs obj i size keep : ℕ) (es mid : List FullElement) (within : keep 
         beside end bytes (shown_low t after (x / BLOCK_BYTES) end bytes late reaches here (ends t x end bytes late below here shown) shown) out is
     kept_here t after x v late reaches below here (none nothing is) =
         none (λ n bytes counts place.
-        let lower : n ≤ keep = left_low t n bytes late counts (let to = place.to in omega (arith, to, here, small)) in
+        let lower : n ≤ keep = left_low t n bytes late counts (let to = place.to in omega (arith, to, here, ahead)) in
         nothing n bytes ((same_low t n bytes lower).0 counts) place) is
 
-    pub cut_closed : CutsBytes pfs obj i size keep es mid
+    pub cut_closed : CutsBytes pfs obj i size keep until es mid
     cut_closed = record {
       writes = closed_writes;
       kept = λ t after x v late reaches below is. elim (cases_lt (x / BLOCK_BYTES) (keep / BLOCK_BYTES)) [
@@ -122,7 +122,7 @@ module _ (pfs obj i size keep : ℕ) (es mid : List FullElement) (within : keep 
       (some : 1 ≤ length front) (few : length front ≤ BLOCK_BYTES) (settled : IsSettled (Counts es i)) (older : AreOlder pfs obj i 0 es)
       (read : AreBytesFrom (Counts es i) pfs obj size begin front) (puts : PutsBlock pfs obj i begin front mid es') where
     -- what counts then ends by the cut
-    put_low : (t n : ℕ) (bytes : List ℕ) → i ≤ t → Counts es' t (bytes_subject pfs obj n) bytes → n < 2 ^ 64 → n ≤ keep
+    put_low : (t n : ℕ) (bytes : List ℕ) → i ≤ t → Counts es' t (bytes_subject pfs obj n) bytes → n ≤ until → n ≤ keep
     put_low t n bytes late counts near = elim (cases_eq n (begin + length front)) [
       | inl is ↦ omega (arith, is, sized)
       | inr differ ↦ left_low t n bytes late (puts.less t n bytes late differ counts) near
@@ -154,11 +154,11 @@ module _ (pfs obj i size keep : ℕ) (es mid : List FullElement) (within : keep 
       | inr inside ↦
           subst (λ (b : ℕ). IsFileByte (Counts es' t) pfs obj after x b) (read_byte t x v late inside below is)
           (byte_put pfs obj begin after front (Counts es' t) some few (puts.there t late) (omega (arith, reaches, sized))
-          (λ n other counts from to. inl (let low = put_low t n other late counts (omega (arith, to, sized, small)) in omega (arith, low, sized)))
+          (λ n other counts from to. inl (let low = put_low t n other late counts (omega (arith, to, sized, ahead, few)) in omega (arith, low, sized)))
           x (omega (arith, inside, below, aligned, sized, few)) (omega (arith, below, sized)))
     ]
 
-    pub cut_put : CutsBytes pfs obj i size keep es es'
+    pub cut_put : CutsBytes pfs obj i size keep until es es'
     cut_put = record {
       writes = writes_again pfs i (IsBytesOf pfs obj i) es mid es' (steady pfs obj i) closed_writes puts.writes;
       kept = kept_put;
@@ -177,7 +177,8 @@ module _ (pfs obj i size keep : ℕ) (es mid : List FullElement) (within : keep 
 
 -- ---- a file of another size
 
-module _ (pfs obj i size new : ℕ) (es es' : List FullElement) (small : new ≤ MOST_FILE_BYTES) (cuts : CutsBytes pfs obj i size (min size new) es es') where
+module _ (pfs obj i size new : ℕ) (es es' : List FullElement) (small : new ≤ MOST_FILE_BYTES)
+    (cuts : CutsBytes pfs obj i size (min size new) (2 ^ 64 - 1) es es') where
   resized_each : (t : ℕ) (content : List ℕ) → i ≤ t → AreFileBytes (Counts es t) pfs obj size content → (x : ℕ) → x < new
       → IsFileByte (Counts es' t) pfs obj new x (slice_index (resized new content) x)
   resized_each t content late file x below =
@@ -206,7 +207,7 @@ module _ (pfs obj i size new : ℕ) (es es' : List FullElement) (small : new ≤
           omega (arith, length-take new (content ++ replicate (new - length content) 0), all, zeros, file.sized);
       each = λ x below. resized_each t content late file x below;
     };
-    zero = cuts.zero;
+    zero = λ t after x late from near. cuts.zero t after x late from (omega (arith, near));
     others = cuts.others;
     follows = cuts.follows;
   }

@@ -1,5 +1,5 @@
 -- What a cut does, by what was read between its calls.
-use Rattle.std.proofs.Common.{◌≡◌, ℕ, ◌+◌, ◌%◌, ◌/◌, ◌^◌, ◌<◌, ◌≤◌, List, Option, None, Some, ap, length, min, subst, sym, inl, inr, arith}
+use Rattle.std.proofs.Common.{◌≡◌, ℕ, ◌+◌, ◌%◌, ◌/◌, ◌<◌, ◌≤◌, List, Option, None, Some, ap, length, min, subst, sym, inl, inr, arith}
 use Rattle.std.specs.Prelude.{IsSomeAnd}
 use Rattle.std.proofs.lemmas.Bool.{cases_lt}
 use Rattle.hm_types.specs.Elements.{FullElement, Key}
@@ -26,12 +26,13 @@ use Rattle.hm_files.proofs.PieceLemmas.{counted_in, span_about}
 abbrev pub IsKnown : ℕ → ℕ → ℕ → Lists → Type 0
 IsKnown pfs obj i lists = AreBlocks (fulls lists) × AreOlder pfs obj i 0 (fulls lists)
 
-module _ (pfs obj i size keep : ℕ) (within : keep ≤ size) (small : keep ≤ MOST_FILE_BYTES) (was : Lists) (known : IsKnown pfs obj i was) where
+module _ (pfs obj i size keep until : ℕ) (within : keep ≤ size) (small : keep ≤ MOST_FILE_BYTES) (ahead : block_end keep ≤ until) (was : Lists)
+    (known : IsKnown pfs obj i was) where
   -- where the cut is where a block begins
-  pub cut_between : (es' : List FullElement) → keep % BLOCK_BYTES ≡ 0 → ClosesBytes pfs obj i (keep + 1) (2 ^ 64) (fulls was) es'
-      → CutsBytes pfs obj i size keep (fulls was) es'
+  pub cut_between : (es' : List FullElement) → keep % BLOCK_BYTES ≡ 0 → ClosesBytes pfs obj i (keep + 1) (until + 1) (fulls was) es'
+      → CutsBytes pfs obj i size keep until (fulls was) es'
   cut_between es' aligned closes =
-      cut_closed pfs obj i size keep (fulls was) es' within small closes
+      cut_closed pfs obj i size keep until (fulls was) es' within ahead closes
       (λ t x end bytes late below here shown. absurd (omega (arith, aligned, below, here)))
 
   -- what shows in the block of the cut is what a search found there
@@ -40,8 +41,8 @@ module _ (pfs obj i size keep : ℕ) (within : keep ≤ size) (small : keep ≤ 
     -- where it ends by the cut, or none was found
     pub cut_unseen : (found : Option Element) (es' : List FullElement) → FindsNearest was.0 at near last i found
         → (IsSomeAnd found (λ e. keep < e.base.key) → ⊥)
-        → ClosesBytes pfs obj i (keep + 1) (2 ^ 64) (fulls was) es' → CutsBytes pfs obj i size keep (fulls was) es'
-    cut_unseen found es' finds low closes = cut_closed pfs obj i size keep (fulls was) es' within small closes ends where
+        → ClosesBytes pfs obj i (keep + 1) (until + 1) (fulls was) es' → CutsBytes pfs obj i size keep until (fulls was) es'
+    cut_unseen found es' finds low closes = cut_closed pfs obj i size keep until (fulls was) es' within ahead closes ends where
       by_found : (end : ℕ) (y : Element) → (found : Option Element) → FindsNearest was.0 at near last i found → (IsSomeAnd found (λ e. keep < e.base.key) → ⊥)
           → y.base.key ≡ end → IsNewestOf was.0 (bytes_subject pfs obj end) i y → EndsIn (keep / BLOCK_BYTES) end
           → ((e : Element) → IsNewestOf was.0 (bytes_subject pfs obj e.base.key) i e → EndsIn (keep / BLOCK_BYTES) e.base.key → ShowsRather size end e.base.key)
@@ -88,9 +89,9 @@ module _ (pfs obj i size keep : ℕ) (within : keep ≤ size) (small : keep ≤ 
 
   -- where its block is put with what was read of it
   pub cut_read : (mid : Lists) (front : List ℕ) (es' : List FullElement) → keep ≡ block_start keep + length front → 1 ≤ length front
-      → IsContent was.0 → AreRead i pfs obj size (block_start keep) front was → ClosesBytes pfs obj i (keep + 1) (2 ^ 64) (fulls was) (fulls mid)
-      → PutsBlock pfs obj i (block_start keep) front (fulls mid) es' → CutsBytes pfs obj i size keep (fulls was) es'
+      → IsContent was.0 → AreRead i pfs obj size (block_start keep) front was → ClosesBytes pfs obj i (keep + 1) (until + 1) (fulls was) (fulls mid)
+      → PutsBlock pfs obj i (block_start keep) front (fulls mid) es' → CutsBytes pfs obj i size keep until (fulls was) es'
   cut_read mid front es' sized some content read closes puts =
-      cut_put pfs obj i size keep (fulls was) (fulls mid) within small closes (block_start keep) front es' (omega arith) sized some (omega (arith, sized))
+      cut_put pfs obj i size keep until (fulls was) (fulls mid) within ahead closes (block_start keep) front es' (omega arith) sized some (omega (arith, sized))
       (settled (full_elements was.0 was.1) i (own_keys-sorted (full_elements was.0 was.1) (full_sorted was.0 was.1 content.rising)))
       known.1 (read (inl (omega (arith, sized, small)))) puts

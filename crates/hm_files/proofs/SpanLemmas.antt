@@ -7,7 +7,7 @@ use Rattle.std.proofs.lemmas.List.{get_or-append_right, get_or-drop, get_or-repl
 use Rattle.std.proofs.lemmas.List.{length-take}
 use Rattle.hm_types.specs.Elements.{FullElement}
 use Rattle.hm_types.specs.Space.{Spends}
-use Rattle.hm_types.specs.declared.limits.TheConstants.{BLOCK_BYTES, MOST_FILE_BYTES}
+use Rattle.hm_types.specs.declared.limits.TheConstants.{BLOCK_BYTES}
 use Rattle.hm_types.specs.declared.space.TheConstants.{INSERT_ROOM}
 use Rattle.hm_types.specs.declared.zone.TheConstants.{LARGE_ZONE, SMALL_ZONE, TREE_ZONE}
 use Rattle.hm_key.specs.Counts.{Counts}
@@ -24,12 +24,12 @@ use Rattle.hm_files.proofs.ShownLemmas.{byte_alike}
 
 module _ (pfs obj i size offset : ℕ) where
   -- where the size lies in a block before
-  pub way_cut : (es es' : List FullElement) → size < block_start offset → offset ≤ MOST_FILE_BYTES → CutsBytes pfs obj i size size es es'
+  pub way_cut : (es es' : List FullElement) → size < block_start offset → CutsBytes pfs obj i size size (block_start offset) es es'
       → ClearsWay pfs obj i size offset es es'
-  way_cut es es' before small cuts = record {
+  way_cut es es' before cuts = record {
     writes = cuts.writes;
     kept = λ t after x v late reaches below early is. cuts.kept t after x v late reaches below is;
-    zero = λ t after x late past below. cuts.zero t after x late past (omega (arith, below, small));
+    zero = λ t after x late past below. cuts.zero t after x late past (omega (arith, below));
     ahead = λ t x v late below from is. absurd (omega (arith, below, from, before));
     fresh = λ n above older. cuts.fresh n (λ is. absurd (omega (arith, above, before, is))) older;
     others = cuts.others;

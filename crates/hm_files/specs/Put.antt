@@ -12,6 +12,7 @@ use Rattle.hm_records.specs.Payload.{IsPayload}
 use Rattle.hm_records.specs.View.{AreFileBytes, IsFileByte}
 use Rattle.hm_cursor.specs.Views.{WritesIn}
 use Rattle.hm_cursor.specs.Write.{IsFreshFor}
+use Rattle.hm_files.specs.Bytes.{block_end}
 use Rattle.hm_files.specs.Close.{IsApart}
 
 -- the zone of so many bytes: whole blocks stand apart from shorter ones
@@ -41,12 +42,12 @@ abbrev pub KeepOthers : ℕ → ℕ → List FullElement → List FullElement �
 KeepOthers pfs obj es es' = (t : ℕ) (s : Subject) (bytes : List ℕ) → s ≢ bytes_subject pfs obj s.key → Counts es' t s bytes ↔ Counts es t s bytes
 
 -- From `i` on a file's bytes before an offset are as they were, whatever size it then has from there on, and from the offset on
--- they are zero.
-pub record CutsBytes (pfs obj i size keep : ℕ) (es es' : List FullElement) : Type 0 where
+-- they are zero in each block that ends by `until`.
+pub record CutsBytes (pfs obj i size keep until : ℕ) (es es' : List FullElement) : Type 0 where
   pub writes : WritesIn pfs i (IsBytesOf pfs obj i) es es'
   pub kept : (t after x byte : ℕ) → i ≤ t → keep ≤ after → x < keep → IsFileByte (Counts es t) pfs obj size x byte
       → IsFileByte (Counts es' t) pfs obj after x byte
-  pub zero : (t after x : ℕ) → i ≤ t → keep ≤ x → x + BLOCK_BYTES < 2 ^ 64 → IsFileByte (Counts es' t) pfs obj after x 0
+  pub zero : (t after x : ℕ) → i ≤ t → keep ≤ x → block_end x ≤ until → IsFileByte (Counts es' t) pfs obj after x 0
   pub fresh : (n : ℕ) → n ≢ keep → IsFreshFor (bytes_subject pfs obj n) i es → IsFreshFor (bytes_subject pfs obj n) i es'
   pub others : KeepOthers pfs obj es es'
   pub follows : StillFollow es es'

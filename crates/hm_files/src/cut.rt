@@ -2,6 +2,7 @@
 ghost use Rattle.std.specs.Prelude.{◌≡◌, ◌↔◌, ◌+◌, ◌*◌, ◌^◌, ◌<◌, ◌≤◌, IsSomeAnd, IsTrue, OnOk};
 ghost use Rattle.hm_key.specs.Members.{HasContentCause, InBalance, KeepsFrame, KeepsTold, SpendsAtMost};
 ghost use Rattle.hm_cursor.specs.Write.{WritesStore};
+ghost use Rattle.hm_files.specs.Bytes.{block_end};
 ghost use Rattle.hm_files.specs.Close.{AreOlderIn};
 ghost use Rattle.hm_files.specs.Put.{CutsBytes, HasBlockRoom, ResizesBytes, block_space};
 
@@ -39,27 +40,29 @@ pub fn resize_bytes<T: ElementStore + Extents>(
     ensures borrowed { KeepsFrame T.Counted store.old store.new }
     ensures cause { HasContentCause T.HasElements store.old store.new result }
 {
-    cut_bytes(store, pfs, obj, size, size.min(new_size), id)
+    cut_bytes(store, pfs, obj, size, size.min(new_size), u64::MAX, id)
 }
 
 /// Lets the bytes of a file of a size be zero from an offset on that is no greater, at most 15,728,640,
-/// from an id of 1 or more on.
+/// in each block that ends by `until`, from an id of 1 or more on. The offset's own block is one.
 pub(crate) fn cut_bytes<T: ElementStore + Extents>(
     store: &mut T,
     pfs: Pfs,
     obj: Obj,
     size: u64,
     keep: u64,
+    until: u64,
     id: Id,
 ) -> Result<(), Fault>
     requires id { 1 ≤ id.0 }
     requires keep { (keep ≤ size) × (keep ≤ MOST_FILE_BYTES) }
+    requires until { block_end keep ≤ until }
     requires balanced { InBalance T.HasElements store.old }
     requires older { AreOlderIn (T.elements store.old) (T.extents store.old)
         pfs.0 obj.0 id.0 0 }
     requires room { HasBlockRoom (T.room store.old) 1 }
     ensures ok { OnOk result (WritesStore T.HasElements
-        (CutsBytes pfs.0 obj.0 id.0 size keep) store.old store.new) }
+        (CutsBytes pfs.0 obj.0 id.0 size keep until) store.old store.new) }
     ensures keeps { KeepsTold T.HasElements store.old store.new result }
     ensures space { SpendsAtMost T.HasElements (block_space 1) store.old store.new }
     ensures borrowed { KeepsFrame T.Counted store.old store.new }
@@ -68,18 +71,18 @@ pub(crate) fn cut_bytes<T: ElementStore + Extents>(
     let block = BLOCK_BYTES as u64;
     let begin = keep / block * block;
     if begin == keep {
-        return close_between(store, pfs, obj, keep + 1, u64::MAX, id);
+        return close_between(store, pfs, obj, keep + 1, until, id);
     }
     let last = begin + block;
     let at = bytes_base(pfs, obj, begin + 1);
     let shown = nearest_version(store, &at, size.min(last), last, id)?;
     if !ends_after(&shown, keep) {
-        return close_between(store, pfs, obj, keep + 1, u64::MAX, id);
+        return close_between(store, pfs, obj, keep + 1, until, id);
     }
     let mut bytes = [0; BLOCK_BYTES];
     let front = &mut bytes[..(keep - begin) as usize];
     read_all(store, pfs, obj, size, begin, id, front)?;
-    close_between(store, pfs, obj, keep + 1, u64::MAX, id)?;
+    close_between(store, pfs, obj, keep + 1, until, id)?;
     put_block(store, pfs, obj, keep, begin, front, id)
 }
 

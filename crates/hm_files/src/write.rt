@@ -142,7 +142,7 @@ fn clear_way<T: ElementStore + Extents>(
 {
     let block = BLOCK_BYTES as u64;
     if size < offset / block * block {
-        return cut_bytes(store, pfs, obj, size, size, id);
+        return cut_bytes(store, pfs, obj, size, size, offset / block * block, id);
     }
     Ok(())
 }

@@ -1,4 +1,4 @@
-use Rattle.std.proofs.Common.{◌≡◌, ◌+◌, ◌-◌, ◌^◌, ◌%◌, ◌/◌, ◌*◌, ◌≤◌, ◌∙◌, arith, length, refl, rules, sym}
+use Rattle.std.proofs.Common.{◌≡◌, ◌+◌, ◌-◌, ◌%◌, ◌/◌, ◌*◌, ◌≤◌, ◌∙◌, arith, length, refl, rules, sym}
 use Rattle.std.proofs.lemmas.Bool.{false≢true}
 use Rattle.std.proofs.lemmas.Result.{on_ok_weaker}
 use Rattle.hm_key.specs.Balance.{content_of}
@@ -26,14 +26,15 @@ returns-then-begin-keep-clause-ok g c =
     let i = c.args.id.0 in
     let size = c.args.size in
     let keep = c.args.keep in
+    let until = c.args.until in
     let old = c.args.store.now in
     let aligned : keep % 16384 ≡ 0 = omega (arith, c.if-begin-keep.true) in
     on_ok_weaker c.close_between.result
-    (λ wrote. writes_so elements extents (ClosesBytes pfs obj i (keep + 1) (2 ^ 64)) (CutsBytes pfs obj i size keep) (IsKnown pfs obj i) old
+    (λ wrote. writes_so elements extents (ClosesBytes pfs obj i (keep + 1) (until + 1)) (CutsBytes pfs obj i size keep until) (IsKnown pfs obj i) old
     c.close_between.new.store
     (known_two (λ lists. AreBlocks (fulls lists)) (λ lists. AreOlder pfs obj i 0 (fulls lists)) (content_of (elements old) (extents old))
     (known_blocks (elements old) (extents old) (g.met.T.ElementStore.sorted old) (g.met.T.Extents.live old) c.requires.balanced) c.requires.older)
-    (λ was es' known closes. cut_between pfs obj i size keep c.requires.keep.0 c.requires.keep.1 was known es' aligned closes) wrote)
+    (λ was es' known closes. cut_between pfs obj i size keep until c.requires.keep.0 c.requires.keep.1 c.requires.until was known es' aligned closes) wrote)
     c.close_between.ensures.ok
 
 pub returns-then-not-ends_after-clause-ok : goal.returns-then-not-ends_after-clause-ok
@@ -45,6 +46,7 @@ returns-then-not-ends_after-clause-ok g c =
     let i = c.args.id.0 in
     let size = c.args.size in
     let keep = c.args.keep in
+    let until = c.args.until in
     let at = key_of c.bytes_base-at.result in
     let near = c.min.result in
     let last = keep / 16384 * 16384 + 16384 in
@@ -52,18 +54,18 @@ returns-then-not-ends_after-clause-ok g c =
     let looked = c.nearest_version.new.store in
     let searched = c.in_ok-shown.ensures in
     let found = c.in_ok-shown.shown in
-    let Closes : Change = ClosesBytes pfs obj i (keep + 1) (2 ^ 64) in
+    let Closes : Change = ClosesBytes pfs obj i (keep + 1) (until + 1) in
     let Told : Lists → Type 0 = λ lists. IsContent lists.0 × FindsNearest lists.0 at near last i found in
     let Known : Lists → Type 0 = λ lists. IsKnown pfs obj i lists × Told lists in
     on_ok_weaker c.close_between-then-not-ends_after.result
-    (λ wrote. writes_so elements extents Closes (CutsBytes pfs obj i size keep) Known old c.close_between-then-not-ends_after.new.store
+    (λ wrote. writes_so elements extents Closes (CutsBytes pfs obj i size keep until) Known old c.close_between-then-not-ends_after.new.store
     (known_two (IsKnown pfs obj i) Told (content_of (elements old) (extents old))
     (known_two (λ lists. AreBlocks (fulls lists)) (λ lists. AreOlder pfs obj i 0 (fulls lists)) (content_of (elements old) (extents old))
     (known_blocks (elements old) (extents old) (g.met.T.ElementStore.sorted old) (g.met.T.Extents.live old) c.requires.balanced) c.requires.older)
     (known_two (λ lists. IsContent lists.0) (λ lists. FindsNearest lists.0 at near last i found) (content_of (elements old) (extents old))
     (known_elements (elements old) (extents old) IsContent (g.met.T.ElementStore.sorted old))
     (known_elements (elements old) (extents old) (λ list. FindsNearest list at near last i found) searched.ok)))
-    (λ was es' known closes. cut_unseen pfs obj i size keep c.requires.keep.0 c.requires.keep.1 was known.0 at near last known.1.0
+    (λ was es' known closes. cut_unseen pfs obj i size keep until c.requires.keep.0 c.requires.keep.1 c.requires.until was known.0 at near last known.1.0
     c.bytes_base-at.ensures.about c.min.ensures refl found es' known.1.1
     (λ ends. false≢true (sym c.if-not-ends_after.true ∙ c.ends_after.ensures.1 ends)) closes)
     (writes_from elements extents Closes old looked c.close_between-then-not-ends_after.new.store searched.keeps.elements searched.keeps.extents wrote))
@@ -78,6 +80,7 @@ returns-clause-ok g c =
     let i = c.args.id.0 in
     let size = c.args.size in
     let keep = c.args.keep in
+    let until = c.args.until in
     let begin = keep / 16384 * 16384 in
     let old = c.args.store.now in
     let looked = c.nearest_version.new.store in
@@ -87,7 +90,7 @@ returns-clause-ok g c =
     let front = c.read_all.new.buffer in
     let searched = c.in_ok-shown.ensures in
     let read = c.in_ok-read_all.ensures in
-    let Closes : Change = ClosesBytes pfs obj i (keep + 1) (2 ^ 64) in
+    let Closes : Change = ClosesBytes pfs obj i (keep + 1) (until + 1) in
     let Puts : Change = PutsBlock pfs obj i begin front in
     let Told : Lists → Type 0 = λ lists. IsContent lists.0 × AreRead i pfs obj size begin front lists in
     let Known : Lists → Type 0 = λ lists. IsKnown pfs obj i lists × Told lists in
@@ -95,8 +98,9 @@ returns-clause-ok g c =
     let sized : keep ≡ begin + length front = omega (arith, long) in
     let some : 1 ≤ length front = omega (arith, long, c.if-begin-keep.false) in
     on_ok_weaker c.put_block.result
-    (λ put. writes_via elements extents Closes Puts (CutsBytes pfs obj i size keep) Known (λ lists. IsContent lists.0) old mid new
-    (λ was mid es' known content balanced closes puts. cut_read pfs obj i size keep c.requires.keep.0 c.requires.keep.1 was known.0 mid front es' sized some
+    (λ put. writes_via elements extents Closes Puts (CutsBytes pfs obj i size keep until) Known (λ lists. IsContent lists.0) old mid new
+    (λ was mid es' known content balanced closes puts.
+    cut_read pfs obj i size keep until c.requires.keep.0 c.requires.keep.1 c.requires.until was known.0 mid front es' sized some
     known.1.0 known.1.1 closes puts)
     (known_two (IsKnown pfs obj i) Told (content_of (elements old) (extents old))
     (known_two (λ lists. AreBlocks (fulls lists)) (λ lists. AreOlder pfs obj i 0 (fulls lists)) (content_of (elements old) (extents old))

@@ -1,4 +1,4 @@
-use Rattle.std.proofs.Common.{ℕ, subst}
+use Rattle.std.proofs.Common.{◌^◌, ◌-◌, ℕ, subst}
 use Rattle.std.proofs.lemmas.Result.{on_ok_weaker}
 use Rattle.hm_key.specs.Balance.{content_of}
 use Rattle.hm_cursor.specs.Told.{fulls}
@@ -19,8 +19,9 @@ returns-clause-ok g c =
     let new = c.args.new_size in
     let old = c.args.store.now in
     on_ok_weaker c.cut_bytes.result
-    (λ wrote. writes_so elements extents (CutsBytes pfs obj i size c.min.result) (ResizesBytes pfs obj i size new) (λ lists. Unit {0}) old c.cut_bytes.new.store
+    (λ wrote. writes_so elements extents (CutsBytes pfs obj i size c.min.result (2 ^ 64 - 1)) (ResizesBytes pfs obj i size new)
+    (λ lists. Unit {0}) old c.cut_bytes.new.store
     (nothing_known (content_of (elements old) (extents old)))
     (λ was es' known cuts. bytes_resized pfs obj i size new (fulls was) es' c.requires.size
-    (subst (λ (n : ℕ). CutsBytes pfs obj i size n (fulls was) es') c.min.ensures cuts)) wrote)
+    (subst (λ (n : ℕ). CutsBytes pfs obj i size n (2 ^ 64 - 1) (fulls was) es') c.min.ensures cuts)) wrote)
     c.cut_bytes.ensures.ok

@@ -1,4 +1,4 @@
-use Rattle.std.proofs.Common.{refl}
+use Rattle.std.proofs.Common.{◌*◌, ◌/◌, refl}
 use Rattle.std.proofs.lemmas.Result.{on_ok_weaker}
 use Rattle.hm_key.specs.Balance.{IsBalanced}
 use Rattle.hm_cursor.specs.Told.{fulls}
@@ -19,9 +19,10 @@ returns-then-size-offset-clause-ok g c =
     let offset = c.args.offset in
     let old = c.args.store.now in
     on_ok_weaker c.cut_bytes.result
-    (λ wrote. writes_so elements extents (CutsBytes pfs obj i size size) (ClearsWay pfs obj i size offset) (λ lists. IsBalanced lists.0 lists.1) old
+    (λ wrote. writes_so elements extents (CutsBytes pfs obj i size size (offset / 16384 * 16384)) (ClearsWay pfs obj i size offset)
+    (λ lists. IsBalanced lists.0 lists.1) old
     c.cut_bytes.new.store c.requires.balanced
-    (λ was es' known cuts. way_cut pfs obj i size offset (fulls was) es' c.if-size-offset.true c.requires.few cuts) wrote)
+    (λ was es' known cuts. way_cut pfs obj i size offset (fulls was) es' c.if-size-offset.true cuts) wrote)
     c.cut_bytes.ensures.ok
 
 pub returns-clause-ok : goal.returns-clause-ok
