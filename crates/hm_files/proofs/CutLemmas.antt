@@ -11,7 +11,7 @@ use Rattle.hm_key.specs.Counts.{Counts, Subject, bytes_subject}
 use Rattle.hm_key.specs.Element.{IsInBlock}
 use Rattle.hm_key.specs.declared.rec_type.TheConstants.{FILE_BYTES}
 use Rattle.hm_records.specs.Changes.{IsSettled}
-use Rattle.hm_records.specs.View.{AreFileBytes, IsFileByte, IsShown, beside, covered, none}
+use Rattle.hm_records.specs.View.{AreFileBytes, IsFileByte, ShowsInBlock, beside, covered, none}
 use Rattle.hm_records.proofs.ObjectLemmas.{byte_one}
 use Rattle.hm_cursor.specs.Views.{CameAs, WritesIn}
 use Rattle.hm_cursor.proofs.FollowLemmas.{follow_twice}
@@ -75,7 +75,7 @@ module _ (pfs obj i size keep until : ℕ) (es mid : List FullElement) (within :
 
   -- what shows in the block of the cut, and ends by there, shows still
   shown_low : (t after block end : ℕ) (bytes : List ℕ) → i ≤ t → keep ≤ after → block ≡ keep / BLOCK_BYTES → end ≤ keep
-      → IsShown (Counts es t) pfs obj size block end bytes → IsShown (Counts mid t) pfs obj after block end bytes
+      → ShowsInBlock (Counts es t) pfs obj size block end bytes → ShowsInBlock (Counts mid t) pfs obj after block end bytes
   shown_low t after block end bytes late reaches here low shown = record {
     there = (same_low t end bytes low).1 shown.there;
     place = shown.place;
@@ -89,7 +89,7 @@ module _ (pfs obj i size keep until : ℕ) (es mid : List FullElement) (within :
 
   -- where what shows in the block of the cut ends by there
   module _ (ends : (t x end : ℕ) (bytes : List ℕ) → i ≤ t → x < keep → x / BLOCK_BYTES ≡ keep / BLOCK_BYTES
-      → IsShown (Counts es t) pfs obj size (x / BLOCK_BYTES) end bytes → end ≤ keep) where
+      → ShowsInBlock (Counts es t) pfs obj size (x / BLOCK_BYTES) end bytes → end ≤ keep) where
     kept_here : (t after x v : ℕ) → i ≤ t → keep ≤ after → x < keep → x / BLOCK_BYTES ≡ keep / BLOCK_BYTES → IsFileByte (Counts es t) pfs obj size x v
         → IsFileByte (Counts mid t) pfs obj after x v
     kept_here t after x v late reaches below here (covered end bytes shown over long is) =

@@ -8,14 +8,14 @@ use Rattle.hm_key.specs.Balance.{full_elements, payload_of}
 use Rattle.hm_key.specs.Counts.{Counts, Subject, bytes_subject, subject_of}
 use Rattle.hm_key.specs.Elements.{IsContent}
 use Rattle.hm_key.specs.declared.element.Element.{Element}
-use Rattle.hm_records.specs.View.{EndsIn, IsShown, ShowsRather}
+use Rattle.hm_records.specs.View.{EndsInBlock, ShowsInBlock, ShowsRather}
 use Rattle.hm_records.proofs.CountsLemmas.{own_keys-sorted, settled}
 use Rattle.hm_cursor.specs.Told.{Lists, fulls}
 use Rattle.hm_cursor.specs.Version.{IsNewestOf}
 use Rattle.hm_cursor.proofs.PayloadLemmas.{full_sorted}
 use Rattle.hm_cursor.proofs.ToldLemmas.{counts_newest, newest_counted}
 use Rattle.hm_cursor.proofs.ViewsLemmas.{fresh_later}
-use Rattle.hm_files.specs.Bytes.{AreRead, block_end, block_start}
+use Rattle.hm_files.specs.Bytes.{AreBytesRead, block_end, block_start}
 use Rattle.hm_files.specs.Close.{AreOlder, ClosesBytes}
 use Rattle.hm_files.specs.Nearest.{FindsNearest, past, up_to}
 use Rattle.hm_files.specs.Put.{CutsBytes, PutsBlock}
@@ -44,8 +44,9 @@ module _ (pfs obj i size keep until : ℕ) (within : keep ≤ size) (small : kee
         → ClosesBytes pfs obj i (keep + 1) (until + 1) (fulls was) es' → CutsBytes pfs obj i size keep until (fulls was) es'
     cut_unseen found es' finds low closes = cut_closed pfs obj i size keep until (fulls was) es' within ahead closes ends where
       by_found : (end : ℕ) (y : Element) → (found : Option Element) → FindsNearest was.0 at near last i found → (IsSomeAnd found (λ e. keep < e.base.key) → ⊥)
-          → y.base.key ≡ end → IsNewestOf was.0 (bytes_subject pfs obj end) i y → EndsIn (keep / BLOCK_BYTES) end
-          → ((e : Element) → IsNewestOf was.0 (bytes_subject pfs obj e.base.key) i e → EndsIn (keep / BLOCK_BYTES) e.base.key → ShowsRather size end e.base.key)
+          → y.base.key ≡ end → IsNewestOf was.0 (bytes_subject pfs obj end) i y → EndsInBlock (keep / BLOCK_BYTES) end
+          → ((e : Element) → IsNewestOf was.0 (bytes_subject pfs obj e.base.key) i e → EndsInBlock (keep / BLOCK_BYTES) e.base.key
+          → ShowsRather size end e.base.key)
           → end ≤ keep
       by_found end y None finds low key newest place rather =
           let from = place.from in
@@ -54,7 +55,7 @@ module _ (pfs obj i size keep until : ℕ) (within : keep ≤ size) (small : kee
       by_found end y (Some e) (up_to is) low key newest place rather =
           let from = place.from in
           let about = span_about at near pfs obj (block_start keep + 1) e at_is is.place in
-          let there : EndsIn (keep / BLOCK_BYTES) e.base.key = record {
+          let there : EndsInBlock (keep / BLOCK_BYTES) e.base.key = record {
             from = omega (arith, is.place.from, ap (λ (s : Subject). s.key) at_is);
             to = omega (arith, is.place.to, near_is);
           } in
@@ -75,21 +76,21 @@ module _ (pfs obj i size keep until : ℕ) (within : keep ≤ size) (small : kee
           absurd (most (omega (arith, is.place.from, near_is, within)))
 
       ends : (t x end : ℕ) (bytes : List ℕ) → i ≤ t → x < keep → x / BLOCK_BYTES ≡ keep / BLOCK_BYTES
-          → IsShown (Counts (fulls was) t) pfs obj size (x / BLOCK_BYTES) end bytes → end ≤ keep
+          → ShowsInBlock (Counts (fulls was) t) pfs obj size (x / BLOCK_BYTES) end bytes → end ≤ keep
       ends t x end bytes late below here shown =
           let now = (fresh_later (bytes_subject pfs obj end) i t (fulls was) bytes (known.1 end (omega arith)) late).0 shown.there in
           let (y, newest, same) = newest_counted was.0 was.1 (bytes_subject pfs obj end) i bytes now in
-          let place = subst (λ (b : ℕ). EndsIn b end) here shown.place in
+          let place = subst (λ (b : ℕ). EndsInBlock b end) here shown.place in
           by_found end y found finds low (ap (λ (s : Subject). s.key) newest.version.about) newest place
           (λ e counts there.
           let bytes' = payload_of was.1 e in
           shown.rather e.base.key bytes'
           ((fresh_later (bytes_subject pfs obj e.base.key) i t (fulls was) bytes' (known.1 e.base.key (omega arith)) late).1
-          (counts_newest was.0 was.1 (bytes_subject pfs obj e.base.key) i e counts)) (subst (λ (b : ℕ). EndsIn b e.base.key) (sym here) there))
+          (counts_newest was.0 was.1 (bytes_subject pfs obj e.base.key) i e counts)) (subst (λ (b : ℕ). EndsInBlock b e.base.key) (sym here) there))
 
   -- where its block is put with what was read of it
   pub cut_read : (mid : Lists) (front : List ℕ) (es' : List FullElement) → keep ≡ block_start keep + length front → 1 ≤ length front
-      → IsContent was.0 → AreRead i pfs obj size (block_start keep) front was → ClosesBytes pfs obj i (keep + 1) (until + 1) (fulls was) (fulls mid)
+      → IsContent was.0 → AreBytesRead i pfs obj size (block_start keep) front was → ClosesBytes pfs obj i (keep + 1) (until + 1) (fulls was) (fulls mid)
       → PutsBlock pfs obj i (block_start keep) front (fulls mid) es' → CutsBytes pfs obj i size keep until (fulls was) es'
   cut_read mid front es' sized some content read closes puts =
       cut_put pfs obj i size keep until (fulls was) (fulls mid) within ahead closes (block_start keep) front es' (omega arith) sized some (omega (arith, sized))

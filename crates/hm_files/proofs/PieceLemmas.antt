@@ -13,7 +13,7 @@ use Rattle.hm_key.specs.Element.{IsElement, IsInBlock}
 use Rattle.hm_key.specs.Elements.{IsContent, element_key}
 use Rattle.hm_key.specs.Extents.{AreExtents, Extent}
 use Rattle.hm_key.specs.declared.element.Element.{Element}
-use Rattle.hm_records.specs.View.{EndsIn, HasNoBytes, IsFileByte, IsShown, ShowsRather, beside, covered, none}
+use Rattle.hm_records.specs.View.{EndsInBlock, HasNoBytes, IsFileByte, ShowsInBlock, ShowsRather, beside, covered, none}
 use Rattle.hm_cursor.specs.Version.{IsCountedIn, IsInSpan, IsNewestOf, numbered}
 use Rattle.hm_cursor.proofs.PayloadLemmas.{length-payload}
 use Rattle.hm_cursor.proofs.ToldLemmas.{counts_newest, newest_counted}
@@ -151,11 +151,11 @@ module _ (es : List Element) (xs : List Extent) (at : Key) (pfs obj size offset 
           let high = highest found (omega (arith, block.some, block.aligned, block.within, below, from, inside)) y counted in omega (arith, high, after))) refl)
 
       module _ (here : e.base.key ≤ block_end offset) (one : 1 ≤ n) where
-        in_place : EndsIn (offset / BLOCK_BYTES) e.base.key
+        in_place : EndsInBlock (offset / BLOCK_BYTES) e.base.key
         in_place = record { from = let low = (there found).1 in omega (arith, low); to = omega (arith, here) }
 
         rather_than : IsNearest es at near last t e → (y : Element) (end : ℕ) → IsNewestOf es (bytes_subject pfs obj end) t y
-            → EndsIn (offset / BLOCK_BYTES) end → ShowsRather size e.base.key end
+            → EndsInBlock (offset / BLOCK_BYTES) end → ShowsRather size e.base.key end
         rather_than nearest y end newest place =
             let key : y.base.key ≡ end = ap (λ (s : Subject). s.key) newest.version.about in
             let above = place.from in
@@ -178,7 +178,7 @@ module _ (es : List Element) (xs : List Extent) (at : Key) (pfs obj size offset 
                 inr (omega (arith, is.place.from, near_is, here, is.place.to, last_is), omega (arith, least, key))
 
         -- what ends in the block of the offset is what shows there
-        found_shown : IsShown (Counts (full_elements es xs) t) pfs obj size (offset / BLOCK_BYTES) e.base.key (payload_of xs e)
+        found_shown : ShowsInBlock (Counts (full_elements es xs) t) pfs obj size (offset / BLOCK_BYTES) e.base.key (payload_of xs e)
         found_shown = record {
           there = subst (λ (s : Subject). Counts (full_elements es xs) t s (payload_of xs e)) about
               (counts_newest es xs (subject_of (element_key e)) t e counts);
@@ -188,10 +188,10 @@ module _ (es : List Element) (xs : List Extent) (at : Key) (pfs obj size offset 
         }
 
         shown_at : (x : ℕ) → offset ≤ x → x < block_end offset
-            → IsShown (Counts (full_elements es xs) t) pfs obj size (x / BLOCK_BYTES) e.base.key (payload_of xs e)
+            → ShowsInBlock (Counts (full_elements es xs) t) pfs obj size (x / BLOCK_BYTES) e.base.key (payload_of xs e)
         shown_at x from below =
             let same : offset / BLOCK_BYTES ≡ x / BLOCK_BYTES = omega (arith, from, below) in
-            subst (λ (b : ℕ). IsShown (Counts (full_elements es xs) t) pfs obj size b e.base.key (payload_of xs e)) same found_shown
+            subst (λ (b : ℕ). ShowsInBlock (Counts (full_elements es xs) t) pfs obj size b e.base.key (payload_of xs e)) same found_shown
 
         -- the zeros after it
         pub ended_bytes : e.base.key ≤ offset → offset + n ≤ block_end offset

@@ -15,7 +15,7 @@ use Rattle.hm_records.specs.View.{IsFileByte}
 use Rattle.hm_records.proofs.CountsLemmas.{own_keys-sorted, settled}
 use Rattle.hm_cursor.specs.Told.{Lists, OnBalanced, fulls}
 use Rattle.hm_cursor.proofs.PayloadLemmas.{full_sorted}
-use Rattle.hm_files.specs.Bytes.{AreBytesFrom, AreOf, AreRead, AreShown, IsReached}
+use Rattle.hm_files.specs.Bytes.{AreBytesFrom, AreOf, AreBytesRead, AreShown, IsReached}
 use Rattle.hm_files.specs.Nearest.{FindsNearest}
 use Rattle.hm_files.proofs.ByteLemmas.{bytes_of_file}
 
@@ -45,8 +45,8 @@ piece_read (Some es) (Some xs) read at near last t found e offset (Ok count) buf
 
 -- one piece more
 pub read_more : (es : Option (List Element)) (xs : Option (List Extent)) (t pfs obj size offset done : ℕ) (front piece all : List ℕ)
-    → length front ≡ done → all ≡ front ++ piece → OnBalanced es xs (AreRead t pfs obj size offset front)
-    → OnBalanced es xs (AreRead t pfs obj size (offset + done) piece) → OnBalanced es xs (AreRead t pfs obj size offset all)
+    → length front ≡ done → all ≡ front ++ piece → OnBalanced es xs (AreBytesRead t pfs obj size offset front)
+    → OnBalanced es xs (AreBytesRead t pfs obj size (offset + done) piece) → OnBalanced es xs (AreBytesRead t pfs obj size offset all)
 read_more None xs t pfs obj size offset done front piece all sized is one other = tt
 read_more (Some es) None t pfs obj size offset done front piece all sized is one other = tt
 read_more (Some es) (Some xs) t pfs obj size offset done front piece all sized is one other = λ balanced reached.
@@ -78,7 +78,7 @@ read_more (Some es) (Some xs) t pfs obj size offset done front piece all sized i
 
 -- what is read is that of the file that the elements show
 pub read_shown : (es : Option (List Element)) (xs : Option (List Extent)) (t pfs obj size offset asked : ℕ) (bytes : List ℕ)
-    → IfSome es IsContent → length bytes ≡ min asked (size - offset) → OnBalanced es xs (AreRead t pfs obj size offset bytes)
+    → IfSome es IsContent → length bytes ≡ min asked (size - offset) → OnBalanced es xs (AreBytesRead t pfs obj size offset bytes)
     → OnBalanced es xs (AreShown t pfs obj size offset asked bytes)
 read_shown None xs t pfs obj size offset asked bytes content sized read = tt
 read_shown (Some es) None t pfs obj size offset asked bytes content sized read = tt

@@ -4,7 +4,7 @@ use Rattle.std.specs.Prelude.{◌↔◌, ◌⊎◌, slice_index}
 use Rattle.hm_types.specs.Elements.{FullElement}
 use Rattle.hm_types.specs.declared.limits.TheConstants.{BLOCK_BYTES}
 use Rattle.hm_key.specs.Counts.{Content, Counts, bytes_subject}
-use Rattle.hm_records.specs.View.{EndsIn, IsFileByte, IsShown, ShowsRather, beside, covered, none}
+use Rattle.hm_records.specs.View.{EndsInBlock, IsFileByte, ShowsInBlock, ShowsRather, beside, covered, none}
 use Rattle.hm_records.proofs.SearchLemmas.{shown_or_none}
 
 -- two sizes show the same of a block: they are one, or both reach its end
@@ -12,7 +12,8 @@ abbrev pub SizesAgree : ℕ → ℕ → ℕ → Type 0
 SizesAgree block size size' =
     (size ≡ size') ⊎ ((block * BLOCK_BYTES + BLOCK_BYTES ≤ size) × (block * BLOCK_BYTES + BLOCK_BYTES ≤ size'))
 
-rather_alike : (block size size' a b : ℕ) → SizesAgree block size size' → EndsIn block a → EndsIn block b → ShowsRather size a b → ShowsRather size' a b
+rather_alike : (block size size' a b : ℕ) → SizesAgree block size size' → EndsInBlock block a
+    → EndsInBlock block b → ShowsRather size a b → ShowsRather size' a b
 rather_alike block size size' a b (inl same) here there rather = subst (λ (n : ℕ). ShowsRather n a b) same rather
 rather_alike block size size' a b (inr both) here there (inl (within, inl last)) = inl (omega (arith, here.to, both.1), inl last)
 rather_alike block size size' a b (inr both) here there (inl (within, inr past)) = absurd (omega (arith, past, both.0, there.to))
@@ -20,10 +21,10 @@ rather_alike block size size' a b (inr both) here there (inr past) = absurd (ome
 
 -- the same count in a block
 abbrev pub CountAlike : ℕ → ℕ → ℕ → Content → Content → Type 0
-CountAlike pfs obj block C D = (n : ℕ) (bytes : List ℕ) → EndsIn block n → D (bytes_subject pfs obj n) bytes ↔ C (bytes_subject pfs obj n) bytes
+CountAlike pfs obj block C D = (n : ℕ) (bytes : List ℕ) → EndsInBlock block n → D (bytes_subject pfs obj n) bytes ↔ C (bytes_subject pfs obj n) bytes
 
 shown_alike : (pfs obj block size size' end : ℕ) (bytes : List ℕ) (C D : Content) → SizesAgree block size size' → CountAlike pfs obj block C D
-    → IsShown C pfs obj size block end bytes → IsShown D pfs obj size' block end bytes
+    → ShowsInBlock C pfs obj size block end bytes → ShowsInBlock D pfs obj size' block end bytes
 shown_alike pfs obj block size size' end bytes C D agree same shown = record {
   there = (same end bytes shown.place).1 shown.there;
   place = shown.place;
@@ -43,7 +44,7 @@ byte_alike pfs obj size size' x byte C D agree same (none nothing is) =
 
 -- where all that counts in a byte's block ends by the byte or begins after it, the byte is zero
 pub byte_zero : (es : List FullElement) (t pfs obj size x : ℕ)
-    → ((n : ℕ) (bytes : List ℕ) → Counts es t (bytes_subject pfs obj n) bytes → EndsIn (x / BLOCK_BYTES) n → (n ≤ x) ⊎ (x + length bytes < n))
+    → ((n : ℕ) (bytes : List ℕ) → Counts es t (bytes_subject pfs obj n) bytes → EndsInBlock (x / BLOCK_BYTES) n → (n ≤ x) ⊎ (x + length bytes < n))
     → IsFileByte (Counts es t) pfs obj size x 0
 byte_zero es t pfs obj size x out = elim (shown_or_none es t pfs obj size (x / BLOCK_BYTES)) [
   | inl nothing ↦ none nothing refl
@@ -56,7 +57,7 @@ module _ (pfs obj begin after : ℕ) (bytes : List ℕ) (D : Content) (some : 1 
     (there : D (bytes_subject pfs obj (begin + length bytes)) bytes) (reaches : begin + length bytes ≤ after)
     (limits : (n : ℕ) (other : List ℕ) → D (bytes_subject pfs obj n) other → begin < n → n ≤ begin + BLOCK_BYTES → (n ≤ begin + length bytes) ⊎ (after < n))
   where
-    put_shown : (block : ℕ) → begin ≡ block * BLOCK_BYTES → IsShown D pfs obj after block (begin + length bytes) bytes
+    put_shown : (block : ℕ) → begin ≡ block * BLOCK_BYTES → ShowsInBlock D pfs obj after block (begin + length bytes) bytes
     put_shown block start = record {
       there = there;
       place = record { from = omega (arith, start, some); to = omega (arith, start, few) };

@@ -26,8 +26,8 @@ abbrev pub count_from : ℕ → ℕ → ℕ → ℕ
 count_from size offset asked = min asked (size - offset)
 
 -- what is read of a file of a size from an offset on, as of `t`
-abbrev pub AreRead : ℕ → ℕ → ℕ → ℕ → ℕ → List ℕ → Lists → Type 0
-AreRead t pfs obj size offset bytes lists =
+abbrev pub AreBytesRead : ℕ → ℕ → ℕ → ℕ → ℕ → List ℕ → Lists → Type 0
+AreBytesRead t pfs obj size offset bytes lists =
     IsReached lists.0 (offset + length bytes) → AreBytesFrom (Counts (fulls lists) t) pfs obj size offset bytes
 
 -- of whatever bytes the file has that the elements show, it is those from the offset on, at most so many as are asked for

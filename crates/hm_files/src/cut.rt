@@ -17,8 +17,9 @@ use hm_types::{BLOCK_BYTES, Counted, Fault, Id, MOST_FILE_BYTES, Obj, Pfs};
 /// Lets a file of a size have another one, at most 15,728,640, from an id of 1 or more on: what is
 /// past the lesser of both is closed, so that it never shows again, and the block in which that lies
 /// keeps what is before it. The inode, which says the size, is the caller's. It takes at most 40,960
-/// bytes of zone 8 and a block of the zones 10 and 11, and a search for each version that it closes.
-/// The faults are those of the store; after one nothing is known of the content.
+/// bytes of zone 8 and a block of the zones 10 and 11, and from there on a search for each length that
+/// its blocks had, and one more for each that it closes. The faults are those of the store; after one
+/// nothing is known of the content.
 pub fn resize_bytes<T: ElementStore + Extents>(
     store: &mut T,
     pfs: Pfs,

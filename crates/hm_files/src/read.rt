@@ -5,7 +5,7 @@ ghost use Rattle.hm_key.specs.Balance.{IsHeld, payload_of};
 ghost use Rattle.hm_key.specs.Element.{IsInBlock};
 ghost use Rattle.hm_key.specs.Members.{HasContentCause, InBalance, IsSame, KeepsFrame};
 ghost use Rattle.hm_cursor.specs.Told.{OnBalanced};
-ghost use Rattle.hm_files.specs.Bytes.{AreOf, AreRead, AreShown, count_from};
+ghost use Rattle.hm_files.specs.Bytes.{AreOf, AreBytesRead, AreShown, count_from};
 
 use crate::block::{bytes_base, end_of_block};
 use crate::search::nearest_version;
@@ -31,7 +31,7 @@ pub fn read_bytes<T: ElementStore + Extents>(
     requires balanced { InBalance T.HasElements store.old }
     ensures count { IfOk result (λ count. count ≡ count_from size offset (length buffer.new)) }
     ensures ok { IfOk result (λ count. OnBalanced (T.elements store.old) (T.extents store.old)
-        (AreRead as_of.0 pfs.0 obj.0 size offset (take count buffer.new))) }
+        (AreBytesRead as_of.0 pfs.0 obj.0 size offset (take count buffer.new))) }
     ensures shown { IfOk result (λ count. OnBalanced (T.elements store.old) (T.extents store.old)
         (AreShown as_of.0 pfs.0 obj.0 size offset (length buffer.new) (take count buffer.new))) }
     ensures keeps { IsSame T.HasElements store.old store.new }
@@ -56,7 +56,7 @@ pub(crate) fn read_all<T: ElementStore + Extents>(
     requires fits { offset + length buffer.old ≤ max size offset }
     requires balanced { InBalance T.HasElements store.old }
     ensures ok { OnOk result (OnBalanced (T.elements store.old) (T.extents store.old)
-        (AreRead as_of.0 pfs.0 obj.0 size offset buffer.new)) }
+        (AreBytesRead as_of.0 pfs.0 obj.0 size offset buffer.new)) }
     ensures keeps { IsSame T.HasElements store.old store.new }
     ensures borrowed { KeepsFrame T.Counted store.old store.new }
     ensures cause { HasContentCause T.HasElements store.old store.new result }
@@ -86,7 +86,7 @@ fn read_piece<T: ElementStore + Extents>(
     ensures some { IfOk result (λ count. 1 ≤ count) }
     ensures fits { IfOk result (λ count. count ≤ length buffer.new) }
     ensures ok { IfOk result (λ count. OnBalanced (T.elements store.old) (T.extents store.old)
-        (AreRead as_of.0 pfs.0 obj.0 size offset (take count buffer.new))) }
+        (AreBytesRead as_of.0 pfs.0 obj.0 size offset (take count buffer.new))) }
     ensures keeps { IsSame T.HasElements store.old store.new }
     ensures borrowed { KeepsFrame T.Counted store.old store.new }
     ensures cause { HasContentCause T.HasElements store.old store.new result }

@@ -14,7 +14,7 @@ use Rattle.hm_records.specs.declared.inode.Inode.{Inode}
 use Rattle.hm_records.specs.declared.kind.TheConstants.{FILE, SOFTLINK}
 use Rattle.hm_records.specs.Inode.{IsInode, inode_bytes}
 use Rattle.hm_key.specs.Counts.{Content, inode_subject, bytes_subject, target_subject}
-use Rattle.hm_records.specs.View.{AreFileBytes, IsFileByte, beside, covered, none as empty, IsHeld, IsObject, IsShown, IsTargetOf, held, missing}
+use Rattle.hm_records.specs.View.{AreFileBytes, IsFileByte, beside, covered, none as empty, IsHeld, IsObject, ShowsInBlock, IsTargetOf, held, missing}
 use Rattle.hm_records.specs.View.{IsTriple, ShowsRather, kind_number}
 use Rattle.hm_records.specs.Changes.{AgreeOnName, AgreeOnObject, IsSettled}
 use Rattle.hm_records.proofs.InodeLemmas.{inode_in, inode_back}
@@ -40,7 +40,7 @@ abbrev pub SameTarget : ℕ → ℕ → Content → Content → Type 0
 SameTarget pfs obj C D = (bytes : List ℕ) → D (target_subject pfs obj) bytes ↔ C (target_subject pfs obj) bytes
 
 pub shown_kept : (pfs obj size block end : ℕ) (bytes : List ℕ) (C D : Content) → SameBytes pfs obj C D
-    → IsShown C pfs obj size block end bytes → IsShown D pfs obj size block end bytes
+    → ShowsInBlock C pfs obj size block end bytes → ShowsInBlock D pfs obj size block end bytes
 shown_kept pfs obj size block end bytes C D same shown = record {
   there = (same end bytes).1 shown.there;
   place = shown.place;
@@ -100,8 +100,8 @@ pub rather_both : (size a b : ℕ) → ShowsRather size a b → ShowsRather size
 rather_both size a b first second = omega (arith, first, second)
 
 -- what shows in a block of a file of one size ends at one place, and is one
-pub shown_one : (pfs obj size block end end' : ℕ) (bytes bytes' : List ℕ) (C : Content) → IsSettled C → IsShown C pfs obj size block end bytes
-    → IsShown C pfs obj size block end' bytes' → (end ≡ end') × (bytes ≡ bytes')
+pub shown_one : (pfs obj size block end end' : ℕ) (bytes bytes' : List ℕ) (C : Content) → IsSettled C → ShowsInBlock C pfs obj size block end bytes
+    → ShowsInBlock C pfs obj size block end' bytes' → (end ≡ end') × (bytes ≡ bytes')
 shown_one pfs obj size block end end' bytes bytes' C settled a b =
     let same : end ≡ end' =
     rather_both size end end' (a.rather end' bytes' b.there b.place) (b.rather end bytes a.there a.place) in (

@@ -20,7 +20,7 @@ use Rattle.hm_records.specs.Inode.{IsInode, inode_bytes}
 use Rattle.hm_key.specs.Versions.{HaveOwnKeys}
 use Rattle.hm_records.specs.Changes.{CountsNothing}
 use Rattle.hm_records.specs.Laws.{made_of}
-use Rattle.hm_records.specs.View.{AreFileBytes, EndsIn, HasNoBytes, IsFileByte, IsObject, IsShown, ShowsRather, beside, covered, none as empty}
+use Rattle.hm_records.specs.View.{AreFileBytes, EndsInBlock, HasNoBytes, IsFileByte, IsObject, ShowsInBlock, ShowsRather, beside, covered, none as empty}
 use Rattle.hm_records.specs.PlainView.{is_at_key, AreFirstBytes, IsBestEnd, IsBetterEnd, IsHeldAs, IsNewerVersion, IsNewestSince, IsNewestVersionOf}
 use Rattle.hm_records.specs.PlainView.{IsObjectAt, IsOfBlock, IsShownEnd, IsUnmade, ShowsFirst}
 use Rattle.hm_records.proofs.CountsLemmas.{same_key, settled}
@@ -251,20 +251,20 @@ module _ (C : Content) (es : List FullElement) (i pfs obj size block : ℕ) (x :
 
 module _ (es : List FullElement) (t pfs obj size : ℕ) where
   -- what counts in a block is an element's
-  element_of : (P : Type 0) (block other : ℕ) (bytes : List ℕ) → Counts es t (bytes_subject pfs obj other) bytes → EndsIn block other
+  element_of : (P : Type 0) (block other : ℕ) (bytes : List ℕ) → Counts es t (bytes_subject pfs obj other) bytes → EndsInBlock block other
       → ((e : FullElement) → Contains es e → IsOfBlock (Counts es t) pfs obj block e → e.key.key ≡ other → P) → P
   element_of P block other bytes counts place on =
       let key : counts.element.key.key ≡ other = ap (λ (s : Subject). s.key) counts.about in
       on counts.element counts.there
       (record {
         about = counts.about ∙ ap (bytes_subject pfs obj) (sym key);
-        place = subst (λ (n : ℕ). EndsIn block n) (sym key) place;
+        place = subst (λ (n : ℕ). EndsInBlock block n) (sym key) place;
         there = (bytes, subst (λ (n : ℕ). Counts es t (bytes_subject pfs obj n) bytes) (sym key) counts);
       })
       key
 
   pub shown_of : (block end : ℕ) (bytes : List ℕ) → IsBestEnd (Counts es t) pfs obj size block es end
-      → Counts es t (bytes_subject pfs obj end) bytes → IsShown (Counts es t) pfs obj size block end bytes
+      → Counts es t (bytes_subject pfs obj end) bytes → ShowsInBlock (Counts es t) pfs obj size block end bytes
   shown_of block end bytes best counts = record {
     there = counts;
     place = best.place;
@@ -288,7 +288,7 @@ module _ (es : List FullElement) (t pfs obj size : ℕ) where
 
     module _ (end : ℕ) (bytes : List ℕ) (best : IsBestEnd (Counts es t) pfs obj size (place / BLOCK_BYTES) es end)
         (counts : Counts es t (bytes_subject pfs obj end) bytes) where
-      shown : IsShown (Counts es t) pfs obj size (place / BLOCK_BYTES) end bytes
+      shown : ShowsInBlock (Counts es t) pfs obj size (place / BLOCK_BYTES) end bytes
       shown = shown_of (place / BLOCK_BYTES) end bytes best counts
 
       pub byte_covered : place < end → end - place ≤ length bytes

@@ -8,7 +8,7 @@ use Rattle.std.proofs.lemmas.List.{take_all}
 use Rattle.hm_types.specs.Elements.{FullElement}
 use Rattle.hm_key.specs.Counts.{Counts, IsSeen, Subject, bytes_subject, subject_of}
 use Rattle.hm_types.specs.declared.limits.TheConstants.{BLOCK_BYTES}
-use Rattle.hm_records.specs.View.{AreFileBytes, EndsIn, HasNoBytes, IsFileByte, IsShown, beside, covered, none as empty}
+use Rattle.hm_records.specs.View.{AreFileBytes, EndsInBlock, HasNoBytes, IsFileByte, ShowsInBlock, beside, covered, none as empty}
 use Rattle.hm_records.specs.PlainView.{AreFirstBytes, HasSome, IsAtLeast, IsBetterEnd, IsCounted, IsLess, IsNewerVersion, IsNewest, IsNewestSince}
 use Rattle.hm_records.specs.PlainView.{IsShownEnd, ShowsFirst}
 use Rattle.hm_records.proofs.MemberLemmas.{has_cases, has_head, has_none, has_tail}
@@ -173,7 +173,7 @@ module _ (es : List FullElement) (t : ℕ) (s : Subject) where
 
 -- ---- the bytes that show in a block
 
-ends_in_or_not : (block end : ℕ) → Decided (EndsIn block end)
+ends_in_or_not : (block end : ℕ) → Decided (EndsInBlock block end)
 ends_in_or_not block end = elim (cases_lt (block * BLOCK_BYTES) end) [
   | inr before ↦ inr (λ ends. absurd (omega (arith, before, ends.from)))
   | inl from ↦ elim (cases_lt (block * BLOCK_BYTES + BLOCK_BYTES) end) [
@@ -214,10 +214,10 @@ module _ (es : List FullElement) (t pfs obj : ℕ) where
 
   -- the bytes that show in a block of a file of a size, if any count there
   pub shown_or_none : (size block : ℕ) → HasNoBytes (Counts es t) pfs obj block
-      ⊎ ((end : ℕ) × (bytes : List ℕ) × IsShown (Counts es t) pfs obj size block end bytes)
+      ⊎ ((end : ℕ) × (bytes : List ℕ) × ShowsInBlock (Counts es t) pfs obj size block end bytes)
   shown_or_none size block = by_end (shown_end_of size block).0 (shown_end_of size block).1 where
     by_end : (best : Option ℕ) → IsShownEnd (Counts es t) pfs obj size block es best → HasNoBytes (Counts es t) pfs obj block
-        ⊎ ((end : ℕ) × (bytes : List ℕ) × IsShown (Counts es t) pfs obj size block end bytes)
+        ⊎ ((end : ℕ) × (bytes : List ℕ) × ShowsInBlock (Counts es t) pfs obj size block end bytes)
     by_end None none = inl (none_in_block es t pfs obj size block none)
     by_end (Some end) best = inr (end, best.there.0, shown_of es t pfs obj size block end best.there.0 best best.there.1)
 

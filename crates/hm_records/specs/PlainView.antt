@@ -16,7 +16,7 @@ use Rattle.hm_types.specs.Tree.{FileTree, is_object_before, is_triple_before}
 use Rattle.hm_records.specs.declared.entry.DirEntry.{DirEntry}
 use Rattle.hm_records.specs.Changes.{CountsNothing, LacksName}
 use Rattle.hm_records.specs.Laws.{triple_of}
-use Rattle.hm_records.specs.View.{AreInOrder, EndsIn, HasEntry, IsFileByte, IsHeld, IsObject, IsTriple, ShowsRather, kind_number}
+use Rattle.hm_records.specs.View.{AreInOrder, EndsInBlock, HasEntry, IsFileByte, IsHeld, IsObject, IsTriple, ShowsRather, kind_number}
 
 -- an element with these bytes
 abbrev pub full_of : Base → List ℕ → FullElement
@@ -67,13 +67,13 @@ HasBytes counts pfs obj end = HasSome counts (bytes_subject pfs obj end)
 -- an element is about bytes of a file that count, and they end in a block
 pub record IsOfBlock (counts : Content) (pfs obj block : ℕ) (e : FullElement) : Type 0 where
   pub about : subject_of e.key ≡ bytes_subject pfs obj e.key.key
-  pub place : EndsIn block e.key.key
+  pub place : EndsInBlock block e.key.key
   pub there : HasBytes counts pfs obj e.key.key
 
 -- of the bytes of a file of a size that some elements are about, that count and that end in a block, those that show end at `end`
 pub record IsBestEnd (counts : Content) (pfs obj size block : ℕ) (es : List FullElement) (end : ℕ) : Type 0 where
   pub there : HasBytes counts pfs obj end
-  pub place : EndsIn block end
+  pub place : EndsInBlock block end
   pub rather : (e : FullElement) → Contains es e → IsOfBlock counts pfs obj block e → ShowsRather size end e.key.key
 
 -- those that show end there, or there are none
@@ -114,7 +114,7 @@ ShowsFirst size end (Some other) = ShowsRather size end other
 
 -- an element is about bytes of a file that count and end in a block, and that show rather than the best ones so far
 pub record IsBetterEnd (counts : Content) (pfs obj size block : ℕ) (best : Option ℕ) (e : FullElement) : Type 0 where
-  pub place : EndsIn block e.key.key
+  pub place : EndsInBlock block e.key.key
   pub about : subject_of e.key ≡ bytes_subject pfs obj e.key.key
   pub rather : ShowsFirst size e.key.key best
   pub there : HasBytes counts pfs obj e.key.key

@@ -26,7 +26,7 @@ kind_number Softlink = SOFTLINK
 kind_number PfsLink = PFS_LINK
 
 -- an offset ends bytes of this block of a file
-pub record EndsIn (block end : ℕ) : Type 0 where
+pub record EndsInBlock (block end : ℕ) : Type 0 where
   pub from : block * BLOCK_BYTES < end
   pub to : end ≤ block * BLOCK_BYTES + BLOCK_BYTES
 
@@ -36,21 +36,21 @@ abbrev pub ShowsRather : ℕ → ℕ → ℕ → Type 0
 ShowsRather size a b = ((a ≤ size) × ((b ≤ a) ⊎ (size < b))) ⊎ ((size < a) × (a ≤ b))
 
 -- of the bytes of a file of a size that count in a block, those that end at `end` are the ones that show
-pub record IsShown (counts : Content) (pfs obj size block end : ℕ) (bytes : List ℕ) : Type 0 where
+pub record ShowsInBlock (counts : Content) (pfs obj size block end : ℕ) (bytes : List ℕ) : Type 0 where
   pub there : counts (bytes_subject pfs obj end) bytes
-  pub place : EndsIn block end
-  pub rather : (other : ℕ) (others : List ℕ) → counts (bytes_subject pfs obj other) others → EndsIn block other → ShowsRather size end other
+  pub place : EndsInBlock block end
+  pub rather : (other : ℕ) (others : List ℕ) → counts (bytes_subject pfs obj other) others → EndsInBlock block other → ShowsRather size end other
 
 -- none of the bytes of a file count in a block
 abbrev pub HasNoBytes : Content → ℕ → ℕ → ℕ → Type 0
-HasNoBytes counts pfs obj block = (end : ℕ) (bytes : List ℕ) → counts (bytes_subject pfs obj end) bytes → EndsIn block end → ⊥
+HasNoBytes counts pfs obj block = (end : ℕ) (bytes : List ℕ) → counts (bytes_subject pfs obj end) bytes → EndsInBlock block end → ⊥
 
 -- Byte `x` of a file of a size: the bytes that show in its block have it, where they reach over it. Where they do not, and
 -- where none count there, it is zero.
 pub data IsFileByte (counts : Content) (pfs obj size x byte : ℕ) : Type 0 where
-  covered : (end : ℕ) (bytes : List ℕ) → IsShown counts pfs obj size (x / BLOCK_BYTES) end bytes → x < end → end ≤ x + length bytes
+  covered : (end : ℕ) (bytes : List ℕ) → ShowsInBlock counts pfs obj size (x / BLOCK_BYTES) end bytes → x < end → end ≤ x + length bytes
       → byte ≡ slice_index bytes (x + length bytes - end) → IsFileByte counts pfs obj size x byte
-  beside : (end : ℕ) (bytes : List ℕ) → IsShown counts pfs obj size (x / BLOCK_BYTES) end bytes → (end ≤ x) ⊎ (x + length bytes < end)
+  beside : (end : ℕ) (bytes : List ℕ) → ShowsInBlock counts pfs obj size (x / BLOCK_BYTES) end bytes → (end ≤ x) ⊎ (x + length bytes < end)
       → byte ≡ 0 → IsFileByte counts pfs obj size x byte
   none : HasNoBytes counts pfs obj (x / BLOCK_BYTES) → byte ≡ 0 → IsFileByte counts pfs obj size x byte
 

@@ -4,7 +4,7 @@ ghost use Rattle.hm_key.specs.Counts.{Counts};
 ghost use Rattle.hm_key.specs.Versions.{HaveOwnKeys};
 ghost use Rattle.hm_records.specs.View.{
   AreFileBytes,
-  EndsIn,
+  EndsInBlock,
   IsFileByte,
   ShowsRather,
 };
@@ -110,7 +110,7 @@ fn is_better_end(
 
 // Whether an offset ends bytes of this block of a file.
 fn ends_in(block: u64, end: u64) -> bool
-    ensures { IsTrue result ↔ EndsIn block end }
+    ensures { IsTrue result ↔ EndsInBlock block end }
 {
     end > 0 && (end - 1) / BLOCK_BYTES as u64 == block
 }

@@ -6,7 +6,7 @@ use Rattle.hm_key.specs.Elements.{IsContent}
 use Rattle.hm_key.specs.Key.{key_of}
 use Rattle.hm_cursor.specs.Told.{Lists, fulls}
 use Rattle.hm_cursor.proofs.CallLemmas.{Change, writes_from, writes_so}
-use Rattle.hm_files.specs.Bytes.{AreRead}
+use Rattle.hm_files.specs.Bytes.{AreBytesRead}
 use Rattle.hm_files.specs.Close.{AreOlder, ClosesBytes}
 use Rattle.hm_files.specs.Nearest.{FindsNearest}
 use Rattle.hm_files.specs.Put.{CutsBytes, PutsBlock}
@@ -92,7 +92,7 @@ returns-clause-ok g c =
     let read = c.in_ok-read_all.ensures in
     let Closes : Change = ClosesBytes pfs obj i (keep + 1) (until + 1) in
     let Puts : Change = PutsBlock pfs obj i begin front in
-    let Told : Lists → Type 0 = λ lists. IsContent lists.0 × AreRead i pfs obj size begin front lists in
+    let Told : Lists → Type 0 = λ lists. IsContent lists.0 × AreBytesRead i pfs obj size begin front lists in
     let Known : Lists → Type 0 = λ lists. IsKnown pfs obj i lists × Told lists in
     let long : length front ≡ keep - begin = search rules in
     let sized : keep ≡ begin + length front = omega (arith, long) in
@@ -105,10 +105,10 @@ returns-clause-ok g c =
     (known_two (IsKnown pfs obj i) Told (content_of (elements old) (extents old))
     (known_two (λ lists. AreBlocks (fulls lists)) (λ lists. AreOlder pfs obj i 0 (fulls lists)) (content_of (elements old) (extents old))
     (known_blocks (elements old) (extents old) (g.met.T.ElementStore.sorted old) (g.met.T.Extents.live old) c.requires.balanced) c.requires.older)
-    (known_two (λ lists. IsContent lists.0) (AreRead i pfs obj size begin front) (content_of (elements old) (extents old))
+    (known_two (λ lists. IsContent lists.0) (AreBytesRead i pfs obj size begin front) (content_of (elements old) (extents old))
     (known_elements (elements old) (extents old) IsContent (g.met.T.ElementStore.sorted old))
-    (known_balanced (elements old) (extents old) (AreRead i pfs obj size begin front) c.requires.balanced
-    (still_read (elements looked) (elements old) (extents looked) (extents old) (AreRead i pfs obj size begin front) searched.keeps.elements
+    (known_balanced (elements old) (extents old) (AreBytesRead i pfs obj size begin front) c.requires.balanced
+    (still_read (elements looked) (elements old) (extents looked) (extents old) (AreBytesRead i pfs obj size begin front) searched.keeps.elements
     searched.keeps.extents read.ok))))
     (known_elements (elements mid) (extents mid) IsContent (g.met.T.ElementStore.sorted mid))
     (writes_from elements extents Closes old last mid (read.keeps.elements ∙ searched.keeps.elements) (read.keeps.extents ∙ searched.keeps.extents)

@@ -2,7 +2,7 @@ use Rattle.std.proofs.Common.{◌≡◌, ◌+◌, ◌-◌, length, take, arith, 
 use Rattle.std.proofs.lemmas.List.{length-take-le}
 use Rattle.hm_cursor.proofs.StoreLemmas.{same_both}
 use Rattle.hm_files.proofs.ByteLemmas.{front_put}
-use Rattle.hm_files.specs.Bytes.{AreRead}
+use Rattle.hm_files.specs.Bytes.{AreBytesRead}
 use Rattle.hm_files.proofs.ReadLemmas.{read_more, still_read}
 use Rattle.hm_files.proofs.read.read_all.Goals as goal
 
@@ -25,7 +25,7 @@ loop-done-preserved g c =
           was.read
           (still_read (g.T.HasElements.elements c.loop-done.store) (g.T.HasElements.elements c.args.store.now) (g.T.HasRoom.extents c.loop-done.store)
           (g.T.HasRoom.extents c.args.store.now)
-          (AreRead c.args.as_of.0 c.args.pfs.0 c.args.obj.0 c.args.size (c.args.offset + done) (take count c.read_piece.new.buffer))
+          (AreBytesRead c.args.as_of.0 c.args.pfs.0 c.args.obj.0 c.args.size (c.args.offset + done) (take count c.read_piece.new.buffer))
           was.keeps.elements was.keeps.extents read.ok);
       keeps = search (rules, same_both);
       name = search rules;

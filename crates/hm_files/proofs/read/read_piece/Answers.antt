@@ -2,7 +2,7 @@ use Rattle.std.proofs.Common.{◌≡◌, ℕ, ◌+◌, ◌-◌, ◌^◌, ◌<◌
 use Rattle.std.proofs.lemmas.List.{length-replicate, length-take}
 use Rattle.hm_key.specs.Key.{key_of}
 use Rattle.hm_key.specs.declared.element.Element.{Element}
-use Rattle.hm_files.specs.Bytes.{AreRead, IsReached, block_end}
+use Rattle.hm_files.specs.Bytes.{AreBytesRead, IsReached, block_end}
 use Rattle.hm_files.specs.Nearest.{FindsNearest}
 use Rattle.hm_files.proofs.PieceLemmas.{before_bytes, element_bytes, ended_bytes, none_bytes}
 use Rattle.hm_files.proofs.ReadLemmas.{piece_read, piece_told}
@@ -26,7 +26,7 @@ returns-in_default-clause-ok g c =
     let near_is : near ≡ min size (min (block_end offset) (2 ^ 64 - 1)) = c.min-near.ensures ∙ ap (min size) c.end_of_block.ensures in
     let inside : offset < near = search rules in
     piece_told (g.T.HasElements.elements c.args.store.now) (g.T.HasRoom.extents c.args.store.now) at near last t c.in_ok-element.field-0
-    (AreRead t pfs obj size offset zeros) (g.met.T.ElementStore.sorted c.args.store.now) (g.met.T.Extents.live c.args.store.now) c.in_ok-element.ensures.ok
+    (AreBytesRead t pfs obj size offset zeros) (g.met.T.ElementStore.sorted c.args.store.now) (g.met.T.Extents.live c.args.store.now) c.in_ok-element.ensures.ok
     (λ es xs content live balanced finds reached. rw is
     (none_bytes es xs at pfs obj size offset near last t len c.bytes_base-at.ensures.about near_is c.end_of_block-last.ensures c.requires.some
     content live balanced inside n few (subst (λ (k : ℕ). IsReached es (offset + k)) (ap length is ∙ length-replicate {A = ℕ} n 0) reached)
@@ -51,7 +51,7 @@ returns-then-offset-begin-clause-ok g c =
     let near_is : near ≡ min size (min (block_end offset) (2 ^ 64 - 1)) = c.min-near.ensures ∙ ap (min size) c.end_of_block.ensures in
     let inside : offset < near = search rules in
     piece_told (g.T.HasElements.elements c.args.store.now) (g.T.HasRoom.extents c.args.store.now) at near last t c.in_ok-element.field-0
-    (AreRead t pfs obj size offset zeros) (g.met.T.ElementStore.sorted c.args.store.now) (g.met.T.Extents.live c.args.store.now) c.in_ok-element.ensures.ok
+    (AreBytesRead t pfs obj size offset zeros) (g.met.T.ElementStore.sorted c.args.store.now) (g.met.T.Extents.live c.args.store.now) c.in_ok-element.ensures.ok
     (λ es xs content live balanced finds reached.
     let found = subst (λ (f : Option Element). FindsNearest es at near last t f) c.in-Some.is finds in
     rw is
@@ -78,7 +78,7 @@ returns-then-element-offset-clause-ok g c =
     let near_is : near ≡ min size (min (block_end offset) (2 ^ 64 - 1)) = c.min-near.ensures ∙ ap (min size) c.end_of_block.ensures in
     let inside : offset < near = search rules in
     piece_told (g.T.HasElements.elements c.args.store.now) (g.T.HasRoom.extents c.args.store.now) at near last t c.in_ok-element.field-0
-    (AreRead t pfs obj size offset zeros) (g.met.T.ElementStore.sorted c.args.store.now) (g.met.T.Extents.live c.args.store.now) c.in_ok-element.ensures.ok
+    (AreBytesRead t pfs obj size offset zeros) (g.met.T.ElementStore.sorted c.args.store.now) (g.met.T.Extents.live c.args.store.now) c.in_ok-element.ensures.ok
     (λ es xs content live balanced finds reached.
     let found = subst (λ (f : Option Element). FindsNearest es at near last t f) c.in-Some.is finds in
     rw is
@@ -104,7 +104,7 @@ returns-clause-ok g c =
     let long : length buffer ≡ len = search rules in
     let from : e.base.key ≤ offset + e.len = omega (arith, c.if-offset-begin.false) in
     piece_read (g.T.HasElements.elements c.args.store.now) (g.T.HasRoom.extents c.args.store.now) (g.T.HasRoom.extents c.nearest_version.new.store)
-    at near last t c.in_ok-element.field-0 e offset c.read_element.result buffer (λ count. AreRead t pfs obj size offset (take count buffer))
+    at near last t c.in_ok-element.field-0 e offset c.read_element.result buffer (λ count. AreBytesRead t pfs obj size offset (take count buffer))
     (g.met.T.ElementStore.sorted c.args.store.now) (g.met.T.Extents.live c.args.store.now) c.in_ok-element.ensures.ok c.in_ok-element.ensures.keeps.extents
     c.read_element.ensures.ok
     (λ count es xs content live balanced finds are reached.

@@ -7,7 +7,7 @@ use Rattle.hm_records.proofs.CountsLemmas.{own_keys-sorted, settled}
 use Rattle.hm_cursor.specs.Told.{Lists, fulls}
 use Rattle.hm_cursor.proofs.CallLemmas.{Change, writes_from, writes_so}
 use Rattle.hm_cursor.proofs.PayloadLemmas.{full_sorted}
-use Rattle.hm_files.specs.Bytes.{AreRead}
+use Rattle.hm_files.specs.Bytes.{AreBytesRead}
 use Rattle.hm_files.specs.Close.{AreOlder}
 use Rattle.hm_files.specs.Put.{PutsBlock}
 use Rattle.hm_files.specs.Write.{PutsPiece}
@@ -66,7 +66,7 @@ returns-clause-ok g c =
     let rest = drop c.shorter-shown.result (take (end - begin) (replicate 16384 0)) in
     let reads = c.in_ok-read_all.ensures in
     let Old : Lists → Type 0 = λ lists. AreBlocks (fulls lists) × AreOlder pfs obj i (begin + 1) (fulls lists) in
-    let Seen : Lists → Type 0 = λ lists. IsContent lists.0 × AreRead i pfs obj size begin read lists in
+    let Seen : Lists → Type 0 = λ lists. IsContent lists.0 × AreBytesRead i pfs obj size begin read lists in
     let Known : Lists → Type 0 = λ lists. Old lists × Seen lists in
     let Put : Change = PutsBlock pfs obj i begin bytes in
     let laid : bytes ≡ take (at - begin) (read ++ rest) ++ (piece ++ drop (at - begin + length piece) (read ++ rest)) = c.lay_over.ensures in
@@ -83,9 +83,9 @@ returns-clause-ok g c =
     (known_two Old Seen (content_of (elements old) (extents old))
     (known_two (λ lists. AreBlocks (fulls lists)) (λ lists. AreOlder pfs obj i (begin + 1) (fulls lists)) (content_of (elements old) (extents old))
     (known_blocks (elements old) (extents old) (g.met.T.ElementStore.sorted old) (g.met.T.Extents.live old) c.requires.balanced) c.requires.older)
-    (known_two (λ lists. IsContent lists.0) (AreRead i pfs obj size begin read) (content_of (elements old) (extents old))
+    (known_two (λ lists. IsContent lists.0) (AreBytesRead i pfs obj size begin read) (content_of (elements old) (extents old))
     (known_elements (elements old) (extents old) IsContent (g.met.T.ElementStore.sorted old))
-    (known_balanced (elements old) (extents old) (AreRead i pfs obj size begin read) c.requires.balanced reads.ok)))
+    (known_balanced (elements old) (extents old) (AreBytesRead i pfs obj size begin read) c.requires.balanced reads.ok)))
     (λ was es' known puts. piece_put pfs obj i size after at piece bytes (fulls was) es'
     (settled (full_elements was.0 was.1) i (own_keys-sorted (full_elements was.0 was.1) (full_sorted was.0 was.1 known.1.0.rising)))
     known.0.1 (omega (arith, long, high, some, larger.1)) (omega (arith, long, high)) larger.0 (omega (arith, long, high, within, larger.1))
