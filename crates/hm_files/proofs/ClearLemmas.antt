@@ -1,5 +1,5 @@
 -- What shows in a block is closed: all that counts there, where versions follow one another.
-use Rattle.std.proofs.Common.{◌≡◌, ◌≢◌, ℕ, ◌+◌, ◌%◌, ◌<◌, ◌≤◌, List, None, ap, sym, subst, ◌∙◌, inl, inr, arith}
+use Rattle.std.proofs.Common.{◌≡◌, ◌≢◌, ℕ, ◌+◌, ◌%◌, ◌<◌, ◌≤◌, List, None, ap, subst, ◌∙◌, inl, inr, arith}
 use Rattle.std.specs.Prelude.{◌⊎◌}
 use Rattle.std.proofs.lemmas.Bool.{cases_eq, cases_lt}
 use Rattle.hm_types.specs.Elements.{FullElement, Key}
@@ -13,11 +13,11 @@ use Rattle.hm_records.proofs.SubjectLemmas.{same_subject}
 use Rattle.hm_cursor.specs.Told.{Lists, fulls}
 use Rattle.hm_cursor.specs.Version.{IsNewestOf, numbered}
 use Rattle.hm_cursor.specs.Views.{IsNothing}
-use Rattle.hm_cursor.specs.Write.{IsFreshFor, Rewrites}
+use Rattle.hm_cursor.specs.Write.{Rewrites}
 use Rattle.hm_cursor.proofs.FollowLemmas.{closing_follows}
 use Rattle.hm_cursor.proofs.ToldLemmas.{counts_newest, newest_counted}
 use Rattle.hm_cursor.proofs.ViewsLemmas.{nothing_written, writes_within}
-use Rattle.hm_files.specs.Close.{AreOlder, ClearsBlock, IsLeftAlone}
+use Rattle.hm_files.specs.Close.{ClearsBlock, IsLeftAlone}
 use Rattle.hm_files.specs.Nearest.{FindsNearest, IsNearest, past, up_to}
 use Rattle.hm_files.proofs.CloseLemmas.{bytes_within, ends_apart, none_some}
 use Rattle.hm_files.proofs.CutLemmas.{AreBlocks}
@@ -77,10 +77,6 @@ module _ (at : Key) (pfs obj i begin near last end : ℕ) (lists : Lists) (at_is
     pub clears_same : e.base.key ≡ end → ClearsBlock pfs obj i begin end (fulls lists) (fulls lists)
     clears_same is = left_alone pfs obj i begin end (fulls lists)
         (λ t late follow n from to differ bytes other. differ (alone_there t n bytes late follow from to other ∙ is))
-
-    -- it may be closed
-    pub clears_fresh : AreOlder pfs obj i (begin + 1) (fulls lists) → IsFreshFor (subject_of (element_key e)) i (fulls lists)
-    clears_fresh older = subst (λ (s : Subject). IsFreshFor s i (fulls lists)) (sym about) (older e.base.key (omega (arith, in_block.0)))
 
     -- and else it is
     pub clears_closed : (es' : List FullElement) → e.base.key ≢ end → Rewrites (subject_of (element_key e)) None i (fulls lists) es'

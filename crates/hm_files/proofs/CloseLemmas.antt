@@ -61,15 +61,6 @@ placed_both was mid now first second = record {
       (e.0, e.1, m.2 ∙ e.2, m.3 ∙ e.3, m.4 ∙ e.4);
 }
 
-module _ (at : Key) (pfs obj key last i : ℕ) (here : subject_of at ≡ bytes_subject pfs obj key) where
-  -- where what counts in the span ends at `limit` or later, no bytes count that end before it
-  pub nothing_between : (lists : Lists) (limit : ℕ) → limit ≤ last + 1 → ((y : Element) → IsCountedIn lists.0 at last i y → limit ≤ y.base.key)
-      → (n : ℕ) → key ≤ n → n < limit → CountsNothing (Counts (fulls lists) i) (bytes_subject pfs obj n)
-  nothing_between lists limit within least n from below bytes counts =
-      let (y, newest, same) = newest_counted lists.0 lists.1 (bytes_subject pfs obj n) i bytes counts in
-      let up = least y (counted_in lists.0 at last i pfs obj key n y here newest from (omega (arith, below, within))) in
-      absurd (omega (arith, up, ap (λ (s : Subject). s.key) newest.version.about, below))
-
 -- a key with another number is about bytes that end there
 pub numbered_about : (at : Key) (pfs obj key first : ℕ) → subject_of at ≡ bytes_subject pfs obj key
     → subject_of (numbered at first) ≡ bytes_subject pfs obj first

@@ -27,14 +27,6 @@ use Rattle.hm_files.proofs.ShownLemmas.{byte_alike, byte_put, byte_zero}
 abbrev pub AreBlocks : List FullElement → Type 0
 AreBlocks es = (x : FullElement) → Contains es x → x.key.rec_type ≡ FILE_BYTES → IsInBlock x.key.key (length x.bytes)
 
--- so does what counts
-pub counted_block : (es : List FullElement) (t pfs obj n : ℕ) (bytes : List ℕ) → AreBlocks es → Counts es t (bytes_subject pfs obj n) bytes
-    → IsInBlock n (length bytes)
-counted_block es t pfs obj n bytes blocks counts =
-    subst (λ (m : ℕ). IsInBlock m (length bytes)) (ap (λ (s : Subject). s.key) counts.about)
-    (subst (λ (b : List ℕ). IsInBlock counts.element.key.key (length b)) counts.holds
-    (blocks counts.element counts.there (ap (λ (s : Subject). s.rec_type) counts.about)))
-
 -- and they do after writing
 pub blocks_still : (pfs obj i : ℕ) (es es' : List FullElement) → WritesIn pfs i (IsBytesOf pfs obj i) es es' → AreBlocks es → AreBlocks es'
 blocks_still pfs obj i es es' writes blocks x has type = by_origin (writes.came x has) where

@@ -13,7 +13,7 @@ use Rattle.hm_key.specs.declared.element.Element.{Element}
 use Rattle.hm_key.specs.declared.rec_type.TheConstants.{FILE_BYTES}
 use Rattle.std.proofs.lemmas.List.Elements.{All-contains}
 use Rattle.hm_records.proofs.MemberLemmas.{map_has}
-use Rattle.hm_cursor.specs.Told.{Lists, OnBalanced, fulls}
+use Rattle.hm_cursor.specs.Told.{Lists, fulls}
 use Rattle.hm_cursor.specs.Write.{Writes}
 use Rattle.hm_cursor.proofs.CallLemmas.{Change}
 use Rattle.hm_cursor.proofs.StoreLemmas.{caused_later}
@@ -34,13 +34,6 @@ pub known_blocks : (es : Option (List Element)) (xs : Option (List Extent)) → 
 known_blocks None xs content live balanced = tt
 known_blocks (Some es) None content live balanced = tt
 known_blocks (Some es) (Some xs) content live balanced = blocks_of (es, xs) content live balanced
-
--- facts of both lists
-pub known_lists : (es : Option (List Element)) (xs : Option (List Extent)) (P : List Element → Type 0) (Q : Lists → Type 0) → IfSome es P → OnBalanced es xs Q
-    → IfSome (content_of es xs) (λ lists. P lists.0 × (IsBalanced lists.0 lists.1 → Q lists))
-known_lists None xs P Q p q = tt
-known_lists (Some es) None P Q p q = tt
-known_lists (Some es) (Some xs) P Q p q = (p, q)
 
 pub known_elements : (es : Option (List Element)) (xs : Option (List Extent)) (P : List Element → Type 0) → IfSome es P
     → IfSome (content_of es xs) (λ lists. P lists.0)
@@ -91,12 +84,6 @@ module _ {S : Type 0} (elements_of : S → Option (List Element)) (extents_of : 
   writes_via A B C K L old mid new =
       does_via A B C K L (content_of (elements_of old) (extents_of old)) (content_of (elements_of mid) (extents_of mid))
       (content_of (elements_of new) (extents_of new))
-
-  -- a store that was only read after a call is as the call left it
-  pub writes_to : (A : Change) (old mid new : S) → elements_of new ≡ elements_of mid → extents_of new ≡ extents_of mid
-      → Writes elements_of extents_of A old mid → Writes elements_of extents_of A old new
-  writes_to A old mid new elements extents =
-      subst (λ (o : Option Lists). Does A (content_of (elements_of old) (extents_of old)) o) (sym (λ j. content_of (elements j) (extents j)))
 
 pub none_of : {A : Type 0} (o : Option A) → is_some o ≡ false → o ≡ None
 none_of None is = refl
