@@ -2,8 +2,9 @@
 # Prunes: the time of one that removes 100,000 elements of 200,000, and of one that removes twice as many of twice as
 # many, beside a statement of the library of SQLite that deletes as many rows of a table with the same keys and an index
 # on the id by which they were closed; and which syncs and bytes either makes. Then the time of the first and of each
-# later `pfs-master` of a run, where there are 10 pseudo file systems and 60,000. Processor time, user and system, the
-# best of five, each on a fresh copy; an opening is taken off, and a sync does nothing in the runs that are timed.
+# later `pfs-master` of a run, where there are 10 pseudo file systems and 60,000. Last, over the tree in memory alone, of a
+# prune and of as many removals in the same order, each a call of its own. Processor time, user and system, the best of
+# five, each on a fresh copy; an opening is taken off, and a sync does nothing in the runs that are timed.
 . "$(dirname "${BASH_SOURCE[0]}")/common.bash"
 
 cc=${CC:-cc}
@@ -67,4 +68,28 @@ for count in 10 60000; do
     time_beyond restore_volume run_unsynced "$room/first" run_unsynced "$room/later"
     awk -v n="$count" -v a="$first" -v b="$seconds" -v m="$later" \
         'BEGIN { printf "%-10d %9.0f µs %9.1f µs\n", n, (a > 0) ? a * 1e6 : 0, b * 1e6 / m }'
+done
+
+program=$top/crates/hm_calls_bench/out/hm_calls_bench
+if [ ! -x "$program" ]; then
+    (cd "$top/crates/hm_calls_bench" && rt run -- dead make 2) >"$room/build" 2>&1 </dev/null
+    [ -x "$program" ] || stop "the program is not built: $(tail -n 3 "$room/build")"
+fi
+
+# How long the dead elements of a tree in memory take to go in this way, each second one of so many, into $seconds.
+dead() {
+    local made
+    rounds=5 measure_best "$program" dead make "$2"
+    made=$seconds
+    rounds=5 measure_best "$program" dead "$1" "$2"
+    [ "$status" -eq 0 ] || stop "dead $1 $2 ended with status $status"
+    seconds=$(awk -v a="$seconds" -v b="$made" 'BEGIN { printf "%.3f", a - b }')
+}
+
+printf '%-10s %10s %10s %7s\n' 'in memory' prune removals ratio
+for gone in 100000 200000; do
+    dead prune $((2 * gone))
+    pruned=$seconds
+    dead remove $((2 * gone))
+    awk -v n="$gone" -v a="$pruned" -v b="$seconds" 'BEGIN { printf "%-10d %8s s %8s s %7.2f\n", n, a, b, a / b }'
 done

@@ -27,6 +27,7 @@ pub struct TableStore {
 
 impl TableStore {
     ghost use Rattle.std.specs.Prelude.{◌≡◌, None, IfOk};
+    ghost use Rattle.hm_types.specs.declared.zone.TheConstants.{TREE_ZONE};
 
     /// A store with no element.
     pub fn new(alloc: Global) -> Result<TableStore, Fault>
@@ -43,6 +44,13 @@ impl TableStore {
             room: ROOM,
             fetches: 0,
         })
+    }
+
+    /// How many bytes of room are left for nodes.
+    pub fn node_room(&self) -> u64
+        ensures { result ≡ ⟦<TableStore as HasRoom>⟧.room self.now TREE_ZONE }
+    {
+        self.tree.space().room()
     }
 }
 
