@@ -1,7 +1,7 @@
 -- Nodes of a sound tree that lie in some big-blocks.
 use Rattle.std.proofs.Common.{◌≡◌, ◌⊎◌, ℕ, zero, suc, ◌+◌, ◌<◌, ◌≤◌, List, [], ◌∷◌, length, Some, None, Ok, Err, Result}
 use Rattle.std.proofs.Common.{true≢false, eqb-true, refl, sym, ap, subst, ◌∙◌, arith, inl, inr}
-use Rattle.std.specs.Prelude.{Option, IfSome, IfOk, IsSome, nat_eq, slice_get}
+use Rattle.std.specs.Prelude.{Option, IfSome, IfOk, nat_eq, slice_get}
 use Rattle.std.specs.List.{AllByRecursion}
 use Rattle.std.proofs.Math.Nat.{eq-or-lt_of_le}
 use Rattle.hm_types.specs.Elements.{Key}

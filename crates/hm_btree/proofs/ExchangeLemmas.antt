@@ -20,7 +20,7 @@ use Rattle.hm_search.proofs.DamageLemmas.{caused_since}
 use Rattle.hm_btree.specs.Below.{SpellsAt}
 use Rattle.hm_btree.specs.Calls.Move.{Exchanges}
 use Rattle.hm_btree.specs.Marking.{Leaves}
-use Rattle.hm_btree.specs.Space.{HasAdded, HasLost, HasNew, HasWritten, IsSpot, IsUpdated}
+use Rattle.hm_btree.specs.Space.{HasAdded, HasLost, IsSpot, IsUpdated}
 use Rattle.hm_btree.specs.Tree.{IsTreeSpace, ChangesTree}
 use Rattle.hm_btree.proofs.EditLemmas.{stored_below, tree_read}
 use Rattle.hm_btree.proofs.MoveLemmas.{root_moved, moved_there}

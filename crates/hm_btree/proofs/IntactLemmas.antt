@@ -9,7 +9,7 @@ use Rattle.hm_types.specs.Faults.{HasStoreCause, IsUndamaged}
 use Rattle.hm_key.specs.declared.element.Element.{Element}
 use Rattle.hm_node.specs.Props.{IsZone-prop}
 use Rattle.hm_search.specs.Props.{IsSoundTree-prop, IsWhole-prop}
-use Rattle.hm_search.specs.Tree.{IsSoundTree, elements_of}
+use Rattle.hm_search.specs.Tree.{elements_of}
 use Rattle.hm_btree.specs.Space.{IsSpot}
 use Rattle.hm_btree.specs.Tree.{IsTreeSpace, IsIntact, told_elements}
 
@@ -40,13 +40,13 @@ elements_told P false told root is = tt
 elements_told P true None root is = tt
 elements_told P true (Some map) root is = is
 
--- and so does what holds where they are a sound tree
+-- and so does what holds where they are a tree
 pub told_intact : (P : Option PageMap → List Element → Type 0) (intact : Bool) (told : Option PageMap) (root : ℕ)
     → ((pages : PageMap) → IsProp (P (Some pages) (elements_of pages root))) → ∥ IsIntact intact told root ∥₁
-    → IfSome told (λ pages. IsSoundTree pages root → P (Some pages) (elements_of pages root)) → IfSome (told_elements intact told root) (P told)
+    → IfSome told (λ pages. IsTreeSpace pages root → P (Some pages) (elements_of pages root)) → IfSome (told_elements intact told root) (P told)
 told_intact P false told root prop sound more = tt
 told_intact P true None root prop sound more = tt
-told_intact P true (Some map) root prop sound more = ∥∥₁_elim sound (prop map) (λ tree. more tree.sound)
+told_intact P true (Some map) root prop sound more = ∥∥₁_elim sound (prop map) more
 
 -- the cause of a fault of a call that needs the tree sound where its pages are told
 pub cause_in_tree : {T U : Type 0} (intact : Bool) (told : Option PageMap) (root old new : ℕ) (fault : Fault)

@@ -1,8 +1,7 @@
 -- A node that stands at another offset: the node above it, or the root.
 use Rattle.std.proofs.Common.{◌≡◌, ◌≢◌, Bool, true, false, true≢false, ◌||◌, ℕ, zero, suc, ◌≤◌, List, [], ◌∷◌, ◌++◌, length, take, drop, refl, sym, ap, subst}
-use Rattle.std.proofs.Common.{◌∙◌, arith, nat_eq, eqb-true, Some, None, append-nil, length-append, max}
+use Rattle.std.proofs.Common.{◌∙◌, arith, nat_eq, eqb-true, Some, None, append-nil, length-append}
 use Rattle.std.specs.Prelude.{Option, IsSome, IfSome, All, slice_get}
-use Rattle.std.specs.List.{AllByRecursion}
 use Rattle.std.specs.List.Sorted.{IsStrictlySortedBy}
 use Rattle.std.proofs.lemmas.List.Elements.{All-from_recursion, recursion_from_All}
 use Rattle.hm_types.specs.Elements.{Key}
@@ -10,7 +9,6 @@ use Rattle.hm_types.specs.Told.{BothTell}
 use Rattle.hm_fields.specs.Pages.{PageMap, page_in}
 use Rattle.hm_key.specs.Key.{key_of, IsBefore}
 use Rattle.hm_key.specs.declared.base.Base.{Base}
-use Rattle.hm_key.specs.declared.element.Element.{Element}
 use Rattle.hm_node.specs.Inner.{IsChild, HasInnerOrder}
 use Rattle.hm_node.specs.Node.{node_in, Spells}
 use Rattle.hm_node.specs.declared.inner.Child.{Child}
@@ -20,7 +18,7 @@ use Rattle.hm_node.specs.declared.node.Node.TheVariants.{Inner as inner_node}
 use Rattle.hm_search.specs.Place.{IsInside, FitsCount}
 use Rattle.hm_search.specs.Search.{holder_place}
 use Rattle.hm_search.specs.Tree.{node_at, elements_in, mark_in, reaches, next_left, child_place, children_of, height_of, root_place, IsTree}
-use Rattle.hm_search.specs.Tree.{IsStoredTree, elements_of, mark_of}
+use Rattle.hm_search.specs.Tree.{IsStoredTree, elements_of}
 use Rattle.hm_search.specs.declared.subtree.Parent.{Parent}
 use Rattle.hm_search.specs.declared.subtree.Subtree.{Subtree}
 use Rattle.hm_search.proofs.ChildLemmas.{IsChildAt, begins_before, place_is}
@@ -29,7 +27,7 @@ use Rattle.hm_search.proofs.ListLemmas.{each_append}
 use Rattle.hm_search.proofs.ReachLemmas.{not_below_itself}
 use Rattle.hm_btree.specs.Marking.{Leaves}
 use Rattle.hm_btree.specs.Edits.{inner_of, with_child, ChildChange}
-use Rattle.hm_btree.specs.Below.{has_under, AreRising, AreStored, IsLocal, Changed, ChangedUnder, Works, SpellsAt, Replaces}
+use Rattle.hm_btree.specs.Below.{has_under, IsLocal, Changed, ChangedUnder, Works, SpellsAt}
 use Rattle.hm_btree.specs.Space.{HasAdded, HasLost, HasNew, IsSpot}
 use Rattle.hm_btree.specs.Tree.{IsTreeSpace, TreeChanged}
 use Rattle.hm_btree.proofs.EditLemmas.{read_there, split_at, set_at_place, child_inside, child_tree}

@@ -11,18 +11,19 @@ use Rattle.hm_types.specs.Faults.{HasStoreCause}
 use Rattle.hm_key.specs.declared.base.Base.{Base}
 use Rattle.hm_key.specs.declared.element.Element.{Element}
 use Rattle.hm_search.specs.Descent.{HasSearchCause}
-use Rattle.hm_search.specs.Tree.{IsSoundTree, elements_of, mark_of, root_place, height_of, node_at}
+use Rattle.hm_search.specs.Tree.{IsSoundTree, IsWhole, elements_of, mark_of, root_place, height_of, node_at}
 use Rattle.hm_btree.specs.Tree.{IsIntact, told_elements, told_mark}
 use Rattle.hm_btree.proofs.IntactLemmas.{told_intact}
 use Rattle.hm_btree.proofs.StoreLemmas.{caused_in_store}
 
--- the element that a search picks among all
+-- the element that a search picks among all, of a tree beside which no page stands
 pub picked_in_store : (pick : List Element → Option Element) (intact : Bool) (told : Option PageMap) (root : ℕ)
     (r : Result (Option Element) Fault) → ∥ IsIntact intact told root ∥₁
-    → IfSome told (λ pages. IsSoundTree pages root → IfOk r (λ found. found ≡ pick (elements_of pages root)))
+    → IfSome told (λ pages. IsSoundTree pages root → IsWhole pages root → IfOk r (λ found. found ≡ pick (elements_of pages root)))
     → IfSome (told_elements intact told root) (λ es. IfOk r (λ found. found ≡ pick es))
 picked_in_store pick intact told root r sound found =
-    told_intact (λ _ es. IfOk r (λ f. f ≡ pick es)) intact told root (λ pages. by_result (elements_of pages root) r) sound found where
+    told_intact (λ _ es. IfOk r (λ f. f ≡ pick es)) intact told root (λ pages. by_result (elements_of pages root) r) sound
+    (IfSome_then told found (λ pages found tree. found tree.sound tree.whole)) where
       by_result : (es : List Element) (q : Result (Option Element) Fault) → IsProp (IfOk q (λ f. f ≡ pick es))
       by_result es (Ok f) = hlevel props
       by_result es (Err fault) = hlevel props
@@ -33,7 +34,8 @@ pub quiet_in_store : (intact : Bool) (told : Option PageMap) (root : ℕ) (at : 
     → IfSome told (λ pages. IsSoundTree pages root → IfOk r (IsQuiet (mark_of pages root) at since))
     → IfSome (told_elements intact told root) (λ _. IfOk r (IsQuiet (told_mark told root) at since))
 quiet_in_store intact told root at since r sound quiet =
-    told_intact (λ o _. IfOk r (IsQuiet (told_mark o root) at since)) intact told root (λ pages. by_result (mark_of pages root) r) sound quiet where
+    told_intact (λ o _. IfOk r (IsQuiet (told_mark o root) at since)) intact told root (λ pages. by_result (mark_of pages root) r) sound
+    (IfSome_then told quiet (λ pages quiet tree. quiet tree.sound)) where
       by_result : (mark : Key → ℕ) (q : Result (Option Base) Fault) → IsProp (IfOk q (IsQuiet mark at since))
       by_result mark (Ok None) = hlevel props
       by_result mark (Ok (Some end)) = hlevel props

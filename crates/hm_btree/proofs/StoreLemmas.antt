@@ -2,6 +2,7 @@
 use Rattle.std.proofs.Common.{◌≡◌, Bool, true, false, true≢false, ℕ, ◌+◌, ◌≤◌, List, refl, sym, ap, ◌∙◌, arith, Some, None, Result, Ok, Err}
 use Rattle.std.specs.Prelude.{Option, option_map, IsTrue, is_some, IfSome, IfErr}
 use Rattle.std.proofs.Props.{props}
+use Rattle.std.proofs.lemmas.Option.{IfSome_then}
 use Rattle.hm_types.specs.Elements.{Key}
 use Rattle.hm_types.specs.declared.fault.Fault.{Fault}
 use Rattle.hm_types.specs.declared.fault.Fault.TheVariants.{Media, Damaged, NoMemory}
@@ -43,7 +44,8 @@ pub caused_in_store : {T : Type 0} (intact : Bool) (told : Option PageMap) (root
     → HasStoreCause (told_elements intact told root) old new result
 caused_in_store intact told root old new result sound counted undamaged = record {
   counted = counted;
-  undamaged = told_intact (λ _ _. IfErr result IsUndamaged) intact told root (λ pages. by_result result) sound undamaged;
+  undamaged = told_intact (λ _ _. IfErr result IsUndamaged) intact told root (λ pages. by_result result) sound
+      (IfSome_then told undamaged (λ pages undamaged tree. undamaged tree.sound));
 } where
   by_result : {T : Type 0} (r : Result T Fault) → IsProp (IfErr r IsUndamaged)
   by_result (Ok x) = hlevel props

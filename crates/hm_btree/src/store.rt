@@ -21,7 +21,8 @@ impl<S: NodeSpace> ElementStore for BTree<S> {
     fn first_at_or_after(&mut self, at: &Base) -> Result<Option<Element>, Fault> {
         self.require_intact()?;
         self.require_root()?;
-        first_uncounted::<S, Brand>(&mut self.space, self.root, at, Blank::new(1))
+        let blank = Blank::new(1);
+        first_uncounted::<S, Brand>(&mut self.space, self.root, at, &mut self.near, blank)
     }
 
     fn last_at_or_before(&mut self, at: &Base) -> Result<Option<Element>, Fault> {

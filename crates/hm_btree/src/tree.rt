@@ -18,6 +18,9 @@ pub struct BTree<S: NodeSpace> {
     pub(crate) root: HOff,
     // Whether no call has failed in the middle of a change.
     pub(crate) intact: bool,
+    // The leaf to which the last search for a first element came. A walk looks there first, and nothing
+    // rests on it: another node may stand there by now, or none.
+    pub(crate) near: HOff,
     ghost sound: { ∥ IsIntact intact (S.pages space) root ∥₁ },
 }
 
@@ -60,11 +63,28 @@ impl<S: NodeSpace> BTree<S> {
         ensures root { result.root ≡ root }
         ensures intact { IsTrue result.intact }
     {
+        BTree::over_near(space, root, HOff::default())
+    }
+
+    /// The same, and the leaf at which a walk looks first: the one that `near` of an earlier tree over
+    /// these pages gave. Any other place only costs a look.
+    pub fn over_near(space: S, root: HOff, near: HOff) -> BTree<S>
+        requires { HoldsTree (S.pages space) root }
+        ensures space { result.space ≡ space }
+        ensures root { result.root ≡ root }
+        ensures intact { IsTrue result.intact }
+    {
         BTree {
             space,
             root,
             intact: true,
+            near,
         }
+    }
+
+    /// The leaf to which the last search for a first element came, as a walk goes on from there.
+    pub fn near(&self) -> HOff {
+        self.near
     }
 
     /// The space.
@@ -92,6 +112,7 @@ impl<S: NodeSpace> BTree<S> {
             space,
             root,
             intact: _,
+            near: _,
         } = self;
         (space, root)
     }

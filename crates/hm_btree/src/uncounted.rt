@@ -9,7 +9,7 @@ ghost use Rattle.hm_key.specs.Stores.{IsEnd, IsFound, IsFoundTo};
 ghost use Rattle.hm_node.specs.Inner.{IsNodeOffset};
 ghost use Rattle.hm_node.specs.Leaf.{IsPlaced};
 ghost use Rattle.hm_search.specs.Descent.{HasSearchCause, Reads};
-ghost use Rattle.hm_search.specs.Tree.{elements_of, mark_of, root_place, IsSoundTree};
+ghost use Rattle.hm_search.specs.Tree.{elements_of, mark_of, root_place, IsSoundTree, IsWhole};
 ghost use Rattle.hm_btree.specs.Calls.Change.{ChangesElement};
 ghost use Rattle.hm_btree.specs.Calls.Insert.{InsertsFrom};
 ghost use Rattle.hm_btree.specs.Calls.Remove.{RemovesFrom};
@@ -23,20 +23,21 @@ use crate::root::insert_from;
 use crate::space::NodeSpace;
 use crate::top::remove_from;
 use hm_key::{Base, Element};
-use hm_search::{Steps, first_at_or_after, last_at_or_before, unchanged_until};
+use hm_search::{Steps, first_near, last_at_or_before, unchanged_until};
 use hm_types::{Counted, Fault, HOff, INSERT_ROOM, Id, TREE_ZONE};
 use std::sync::ledger::{Blank, Ledger};
 
-/// The first element at the key of `at` or after it.
+/// The first element at the key of `at` or after it, by a look at `near` first.
 pub fn first_uncounted<S: NodeSpace, L: Ledger>(
     space: &mut S,
     root: HOff,
     at: &Base,
+    near: &mut HOff,
     blank: Blank,
 ) -> Result<Option<Element>, Fault>
     requires root { IsNodeOffset root }
     requires opens { Opens L.name L.parts blank.name blank.parts }
-    ensures ok { IfSome (S.pages space.old) (λ map. IsSoundTree map root →
+    ensures ok { IfSome (S.pages space.old) (λ map. IsSoundTree map root → IsWhole map root →
         IfOk result (λ found. found ≡ first_from (key_of at.now) (elements_of map root))) }
     ensures found { IfOk result (λ found. IfSome found (IsFound (key_of at.now))) }
     ensures same { Reads S.name S.frame S.rest S.pages space.old space.new }
@@ -44,7 +45,7 @@ pub fn first_uncounted<S: NodeSpace, L: Ledger>(
         (S.faults space.old) (S.faults space.new) result }
 {
     let mut steps = Steps::<L>::begin(blank);
-    first_at_or_after(space, root, at, &mut steps)
+    first_near(space, root, at, near, &mut steps)
 }
 
 /// The last element at the key of `at` or before it.

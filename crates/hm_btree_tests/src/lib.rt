@@ -1,4 +1,4 @@
-//! Tests of `hm_btree`: the tree beside an ordered map, what its calls read and write, the last
+//! Tests of `hm_btree`: the tree beside an ordered map, what its calls read and write, walks, the last
 //! element up to each key, and bad pages.
 //!
 //! They stand in a crate of their own, so that the proofs of the tree are not done once more with
@@ -17,3 +17,5 @@ mod last_tests;
 mod split_tests;
 #[cfg(test)]
 mod tests;
+#[cfg(test)]
+mod walk_tests;

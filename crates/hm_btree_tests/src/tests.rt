@@ -237,7 +237,8 @@ fn count_writes(
     Ok(tree)
 }
 
-// Looks up so many elements, and sees that as many nodes are read as the tree has levels.
+// Looks up so many elements, and sees that no more nodes are read than the tree has levels, and the leaf
+// of the search before.
 fn count_reads(
     rt: &impl Abort,
     tree: BTree<NodeTable>,
@@ -248,7 +249,8 @@ fn count_reads(
         let before = tree.space().reads();
         let e = element(key(i), 1);
         assert_eq!(rt; tree.first_at_or_after(&e.base)?, Some(e));
-        assert_eq!(rt; tree.space().reads().saturating_sub(before), levels);
+        let reads = tree.space().reads().saturating_sub(before);
+        assert!(rt; reads <= levels.saturating_add(1), "{reads} reads");
     }
     Ok(tree)
 }

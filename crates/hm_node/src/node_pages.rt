@@ -1,5 +1,5 @@
 // Pages that are nodes wherever a node may stand.
-ghost use Rattle.std.specs.Prelude.{◌≡◌, ℕ, List, IfSome};
+ghost use Rattle.std.specs.Prelude.{◌≡◌, ℕ, List, Some, IfSome};
 ghost use Rattle.hm_node.specs.Inner.{IsNodeOffset};
 ghost use Rattle.hm_node.specs.Shape.{HoldsNode};
 
@@ -12,10 +12,10 @@ use hm_types::HOff;
 /// each read.
 pub trait NodePages: Pages {
     /// The page at `at` where it stands in memory, to be looked at without a copy of it. None where
-    /// it has to be read.
+    /// it has to be read, and where a node may stand and none does.
     fn look(&self, at: HOff) -> Option<&Page>
         ensures told { IfSome result (λ page. IfSome (Self.pages self.now) (λ map.
-            IfSome (map at) (λ bytes. page.now ≡ bytes))) }
+            IsNodeOffset at → map at ≡ Some page.now)) }
         ensures kept { IfSome result (λ page. Self.kept at page.now) };
 
     /// What is known of a page there is that it holds a node.

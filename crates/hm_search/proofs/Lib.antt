@@ -18,3 +18,4 @@ pub mod PageLemmas
 pub mod ReachLemmas
 pub mod SearchLemmas
 pub mod SearchToLemmas
+pub mod WithinLemmas

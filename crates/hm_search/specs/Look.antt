@@ -8,6 +8,7 @@ use Rattle.hm_key.specs.Elements.{first_from}
 use Rattle.hm_key.specs.Places.{leading}
 use Rattle.hm_key.specs.Stores.{IsFound}
 use Rattle.hm_key.specs.declared.base.Base.{Base}
+use Rattle.hm_key.specs.declared.element.Element.{Element}
 use Rattle.hm_node.specs.Inner.{HasInnerOrder}
 use Rattle.hm_node.specs.Leaf.{HasLeafOrder}
 use Rattle.hm_node.specs.Node.{node_in, HasFields, HasLevel}
@@ -69,6 +70,17 @@ pub record ShowsLeaf (key : Key) (leaf : Leaf) (seen : SeenLeaf) : Type 0 where
   pub mirror : seen.mirror ≡ leaf.mirror
   pub found : IfSome seen.first (IsFound key)
   pub ordered : HasLeafOrder leaf → IsSeenLeaf key leaf seen
+
+-- An element that a leaf shows for a key is one from the key on. Where the leaf is in order, it is the first, and another
+-- stands before the key.
+pub record ShowsFrom (key : Key) (leaf : Leaf) (e : Element) : Type 0 where
+  pub found : IsFound key e
+  pub first : HasLeafOrder leaf → first_from key leaf.places.items ≡ Some e
+  pub before : HasLeafOrder leaf → 1 ≤ leading key leaf.places.items
+
+abbrev pub ShowsWithin : Key → Node → Element → Type 0
+ShowsWithin key (leaf_node leaf) e = ShowsFrom key leaf e
+ShowsWithin key (inner_node inner) e = ⊥
 
 -- The same of an inner node: its `mirror`; a child whose boundaries hold the key where those of the node do, and another one. Where the
 -- node is in order, they are those that hold the key and come next.

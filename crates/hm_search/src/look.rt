@@ -154,7 +154,7 @@ impl Look for Seen {
 }
 
 // What is seen in the page of a leaf.
-fn see_leaf(page: &Page, head: &Head, at: &Base) -> SeenLeaf
+pub(crate) fn see_leaf(page: &Page, head: &Head, at: &Base) -> SeenLeaf
     requires head { head.now ≡ head_in page.now }
     requires few { head.now.count ≤ 63 }
     requires places { ArePlaces page.now head.now.count }

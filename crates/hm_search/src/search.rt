@@ -50,28 +50,6 @@ pub fn find<P: NodePages, L: Ledger>(
     find_below(pages, &Subtree::root(root), at, steps)
 }
 
-/// The first element at the key of `at` or after it, and None where no element is there. A node a
-/// level is read, nine at most, and where the leaf of the key has nothing from there on, the leftmost
-/// nodes of the next subtree to the right, eight at most. No node is read twice, and nothing changes.
-pub fn first_at_or_after<P: NodePages, L: Ledger>(
-    pages: &mut P,
-    root: HOff,
-    at: &Base,
-    steps: &mut Steps<L>,
-) -> Result<Option<Element>, Fault>
-    requires { IsNodeOffset root }
-    ensures ok { IfSome (P.pages pages.old) (λ map. IsSoundTree map root →
-        IfOk result (λ found. found ≡ first_from (key_of at.now) (elements_of map root))) }
-    ensures found { IfOk result (λ found. IfSome found (IsFound (key_of at.now))) }
-    ensures steps { steps.new ≤ steps.old + 17 }
-    ensures same { Reads P.name P.frame P.rest P.pages pages.old pages.new }
-    ensures cause { HasSearchCause (P.pages pages.old) (root_place root)
-        (P.faults pages.old) (P.faults pages.new) result }
-{
-    let reached = first_below(pages, &Subtree::root(root), at, steps)?;
-    Ok(reached.element())
-}
-
 /// The last element at the key of `at` or before it, and None where no element is there. A node a
 /// level is read, nine at most, and where the leaf of the key has nothing up to it, the rightmost
 /// nodes of the next subtree to the left, eight at most. No node is read twice, and nothing changes.
@@ -144,11 +122,12 @@ fn find_below<P: NodePages, L: Ledger>(
 }
 
 // The first element from a key on below a place, and where none is there, beside the way down to
-// the key.
-fn first_below<P: NodePages, L: Ledger>(
+// the key. `leaf` is then the last leaf to which it came.
+pub(crate) fn first_below<P: NodePages, L: Ledger>(
     pages: &mut P,
     subtree: &Subtree,
     at: &Base,
+    leaf: &mut HOff,
     steps: &mut Steps<L>,
 ) -> Result<Reached, Fault>
     requires spot { IsNodeOffset subtree.now.at }
@@ -165,11 +144,14 @@ fn first_below<P: NodePages, L: Ledger>(
         (P.faults pages.old) (P.faults pages.new) result }
 {
     match step_to::<P, Seen, L>(pages, subtree, at, steps)? {
-        Seen::Leaf(leaf) => Ok(Reached::here(leaf.first)),
-        Seen::Inner(inner) => match first_below(pages, &inner.child, at, steps)? {
+        Seen::Leaf(seen) => {
+            *leaf = subtree.at;
+            Ok(Reached::here(seen.first))
+        }
+        Seen::Inner(inner) => match first_below(pages, &inner.child, at, leaf, steps)? {
             Reached::Found(found) => Ok(Reached::Found(found)),
             Reached::Missed => match inner.next {
-                Some(next) => Ok(Reached::beside(first_beside(pages, &next, at, steps)?)),
+                Some(next) => Ok(Reached::beside(first_beside(pages, &next, at, leaf, steps)?)),
                 None => Ok(Reached::Missed),
             },
             Reached::Nothing => Ok(Reached::Nothing),
@@ -178,11 +160,12 @@ fn first_below<P: NodePages, L: Ledger>(
 }
 
 // The first element from a key on below a place of which nothing is before the key: one node a level
-// is asked for.
+// is asked for. `leaf` is then the leaf to which it came.
 fn first_beside<P: NodePages, L: Ledger>(
     pages: &mut P,
     subtree: &Subtree,
     at: &Base,
+    leaf: &mut HOff,
     steps: &mut Steps<L>,
 ) -> Result<Option<Element>, Fault>
     requires spot { IsNodeOffset subtree.now.at }
@@ -197,8 +180,11 @@ fn first_beside<P: NodePages, L: Ledger>(
         (P.faults pages.old) (P.faults pages.new) result }
 {
     match step_to::<P, Seen, L>(pages, subtree, at, steps)? {
-        Seen::Leaf(leaf) => Ok(leaf.first),
-        Seen::Inner(inner) => first_beside(pages, &inner.child, at, steps),
+        Seen::Leaf(seen) => {
+            *leaf = subtree.at;
+            Ok(seen.first)
+        }
+        Seen::Inner(inner) => first_beside(pages, &inner.child, at, leaf, steps),
     }
 }
 

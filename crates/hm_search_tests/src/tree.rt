@@ -8,7 +8,7 @@ use arrayvec::ArrayVec;
 use hm_fields::{MemPages, Page, Pages};
 use hm_key::{Base, DIRECTORY_ENTRY, ELEMENT, Element};
 use hm_node::{Child, Inner, Leaf, Node, NodePages, broken_rule, encode};
-use hm_search::{Found, Steps, find, first_at_or_after, last_at_or_before, unchanged_until};
+use hm_search::{Found, Steps, find, first_near, last_at_or_before, unchanged_until};
 use hm_types::{Counted, Fault, HOff, Id, Obj, TREE_ZONE};
 use std::alloc::Global;
 use std::marker::Brand;
@@ -218,7 +218,8 @@ fn first_in<L: Ledger>(
     requires some { 0 < blank.parts }
 {
     let mut steps = Steps::<L>::begin(blank);
-    first_at_or_after(pages, root, at, &mut steps)
+    let mut near = root;
+    first_near(pages, root, at, &mut near, &mut steps)
 }
 
 pub(crate) fn first_found(

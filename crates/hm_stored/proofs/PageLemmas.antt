@@ -59,9 +59,10 @@ read_kept h at page whole kept is = record { node = λ spot. ∥∥₁_elim kept
 -- the same of a page that is looked at where it stands, if one does
 module _ {R : Type 0} (now : R → List ℕ) (h : Heap) (at : ℕ) where
   pub looked_told : (found : Option R) → option_map now found ≡ h.pages.current at
-      → IfSome found (λ page. IfSome (pages_of h) (λ map. IfSome (map at) (λ bytes. now page ≡ bytes)))
+      → IfSome found (λ page. IfSome (pages_of h) (λ map. IsNodeOffset at → map at ≡ Some (now page)))
   looked_told None is = tt
-  looked_told (Some page) is = read_told h at (now page) (sym is)
+  looked_told (Some page) is = pages_told h (λ map. IsNodeOffset at → map at ≡ Some (now page))
+      (λ spot. node_is h.pages.current at spot.zone ∙ sym is)
 
   pub looked_kept : (found : Option R) → option_map now found ≡ h.pages.current at → IsTrue h.whole → ∥ IsKept h ∥₁
       → IfSome found (λ page. KeepsNodes at (now page))

@@ -29,6 +29,8 @@ pub struct Stored<D: Disk> {
     pub(crate) root: HOff,
     // Whether a call is open.
     pub(crate) is_open: bool,
+    // The leaf at which a walk looks first. Nothing rests on it.
+    pub(crate) near: HOff,
     ghost tree: { HoldsTree (pages_of (heap space)) root },
     ghost rooted: { IsRooted is_open (heap space) root } by { Prim.hlevel props },
 }
@@ -76,6 +78,7 @@ impl<D: Disk> Stored<D> {
             space,
             root,
             is_open: false,
+            near: HOff::default(),
         }
     }
 

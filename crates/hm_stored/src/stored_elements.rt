@@ -20,7 +20,12 @@ impl<D: Disk> ElementStore for Stored<D> {
         if !self.is_open {
             return Err(Fault::NoMemory);
         }
-        let (root, found) = tree_calls::first_at_or_after(&mut self.space, self.root, at);
+        let (root, found) = tree_calls::first_at_or_after(
+            &mut self.space,
+            self.root,
+            &mut self.near,
+            at,
+        );
         self.root = root;
         found
     }

@@ -115,10 +115,12 @@ pub(crate) fn readdress<D: Disk>(
     (root, answer)
 }
 
-/// The first element at the key of `at` or after it.
+/// The first element at the key of `at` or after it, by a look at the leaf `near` first. `near` is then
+/// the leaf to which the search came.
 pub(crate) fn first_at_or_after<D: Disk>(
     space: &mut Space<D>,
     root: HOff,
+    near: &mut HOff,
     at: &Base,
 ) -> (HOff, Result<Option<Element>, Fault>)
     requires tree { HoldsTree (pages_of (heap space.old)) root }
@@ -130,8 +132,9 @@ pub(crate) fn first_at_or_after<D: Disk>(
         (D.faults space.old.disk) (D.faults space.new.disk) result.1 }
     ensures past { D.past space.new.disk ≡ D.past space.old.disk }
 {
-    let mut tree = BTree::over(space, root);
+    let mut tree = BTree::over_near(space, root, *near);
     let answer = tree.first_at_or_after(at);
+    *near = tree.near();
     let (space, root) = tree.into_parts();
     let _there = space;
     (root, answer)

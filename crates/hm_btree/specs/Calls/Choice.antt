@@ -1,5 +1,5 @@
 -- What the calls answer that look for a node in some big-blocks.
-use Rattle.std.specs.Prelude.{◌≡◌, ℕ, List, Option, None, Some, IsSome}
+use Rattle.std.specs.Prelude.{ℕ, List, Option, None, Some, IsSome}
 use Rattle.std.specs.List.{Contains}
 use Rattle.hm_types.specs.Elements.{Key}
 use Rattle.hm_types.specs.Layout.{block_of}

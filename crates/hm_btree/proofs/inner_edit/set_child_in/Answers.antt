@@ -1,5 +1,4 @@
 use Rattle.std.proofs.Common.{◌≡◌, ◌∙◌, ap, sym, subst, length, arith}
-use Rattle.hm_key.specs.declared.base.Base.{Base}
 use Rattle.hm_node.specs.Head.{head_in}
 use Rattle.hm_node.specs.Inner.{child_in, inner_in}
 use Rattle.hm_node.specs.Places.{place}

@@ -1,14 +1,13 @@
-use Rattle.std.proofs.Common.{◌∙◌, ◌≡◌, ◌≢◌, ◌≤◌, ◌<◌, ℕ, Bool, true, false, true≢false, ap, refl, sym, subst, rules, arith, Result}
-use Rattle.std.specs.Prelude.{Option, IfSome, IsSome, is_some}
+use Rattle.std.proofs.Common.{◌≡◌, ◌≢◌, ◌≤◌, ◌<◌, ℕ, true≢false, ap, sym, subst, rules, arith, Result}
+use Rattle.std.specs.Prelude.{Option, IfSome, IsSome}
 use Rattle.std.proofs.lemmas.Option.{IfSome_then}
 use Rattle.std.proofs.lemmas.Result.{err_from_is_err_and}
-use Rattle.hm_types.specs.Faults.{HasFaultCause, HasStoreCause}
+use Rattle.hm_types.specs.Faults.{HasFaultCause}
 use Rattle.hm_types.specs.Told.{BothTell}
 use Rattle.hm_types.specs.declared.fault.Fault.{Fault}
 use Rattle.hm_types.specs.declared.zone.TheConstants.{TREE_ZONE}
 use Rattle.hm_fields.specs.Pages.{PageMap}
 use Rattle.hm_key.specs.Key.{key_of}
-use Rattle.hm_node.specs.Head.{head_in}
 use Rattle.hm_node.specs.Inner.{inner_in}
 use Rattle.hm_node.specs.Node.{level_of, node_in}
 use Rattle.hm_node.specs.declared.node.Node.{Node}
@@ -20,12 +19,12 @@ use Rattle.hm_btree.specs.Space.{HasAdded, HasLost, IsUpdated}
 use Rattle.hm_btree.specs.declared.move_node.Moved.{Moved}
 use Rattle.hm_btree.specs.declared.space.TheConstants.{NODE_BYTES}
 use Rattle.hm_btree.proofs.EditLemmas.{child_level_lower}
-use Rattle.hm_btree.proofs.ExchangeLemmas.{below_exchanged, child_exchanged, there_added}
+use Rattle.hm_btree.proofs.ExchangeLemmas.{below_exchanged, child_exchanged}
 use Rattle.hm_btree.proofs.InsertLemmas.{spends_add, spends_none}
 use Rattle.hm_btree.proofs.KeptLemmas.{kept_read, kept_change, kept_both}
 use Rattle.hm_btree.proofs.MoveLemmas.{moved_works, stays_local}
 use Rattle.hm_btree.proofs.PageLemmas.{page_shaped}
-use Rattle.hm_btree.proofs.PassLemmas.{pass_cause_read, pass_cause_below, pass_cause_write}
+use Rattle.hm_btree.proofs.PassLemmas.{pass_cause_read, pass_cause_below}
 use Rattle.hm_btree.proofs.ShapeLemmas.{child_offset}
 use Rattle.hm_btree.proofs.WorksLemmas.{inner_works}
 use Rattle.hm_btree.proofs.move_node.+move_below.Goals as goal

@@ -1,9 +1,8 @@
-use Rattle.std.proofs.Common.{◌∙◌, ◌≤◌, ℕ, ap, subst, sym, arith, Result, Err, rules}
-use Rattle.std.specs.Prelude.{Option, IfSome, IsSome, is_some}
+use Rattle.std.proofs.Common.{ℕ, ap, subst, sym, arith, Result, Err}
+use Rattle.std.specs.Prelude.{Option, IfSome, IsSome}
 use Rattle.std.proofs.lemmas.Result.{err_from_is_err_and}
 use Rattle.hm_types.specs.declared.fault.Fault.{Fault}
 use Rattle.hm_types.specs.declared.zone.TheConstants.{TREE_ZONE}
-use Rattle.hm_types.specs.Faults.{HasStoreCause}
 use Rattle.hm_fields.specs.Pages.{PageMap}
 use Rattle.hm_search.specs.Descent.{HasSearchCause}
 use Rattle.hm_search.specs.Tree.{root_place}

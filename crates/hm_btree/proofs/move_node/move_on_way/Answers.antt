@@ -1,10 +1,9 @@
-use Rattle.std.proofs.Common.{◌∙◌, ℕ, ap, subst, sym, arith, Result, Err}
-use Rattle.std.specs.Prelude.{Option, IfSome, is_some}
+use Rattle.std.proofs.Common.{ℕ, ap, subst, arith, Result, Err}
+use Rattle.std.specs.Prelude.{IfSome}
 use Rattle.std.proofs.lemmas.Option.{IfSome_then}
 use Rattle.std.proofs.lemmas.Result.{err_from_is_err_and}
 use Rattle.hm_types.specs.declared.fault.Fault.{Fault}
-use Rattle.hm_types.specs.Faults.{HasFaultCause, HasStoreCause}
-use Rattle.hm_fields.specs.Pages.{PageMap}
+use Rattle.hm_types.specs.Faults.{HasFaultCause}
 use Rattle.hm_key.specs.Key.{key_of}
 use Rattle.hm_node.specs.Node.{node_in}
 use Rattle.hm_node.specs.declared.node.Node.{Node}
@@ -19,7 +18,7 @@ use Rattle.hm_btree.specs.declared.space.TheConstants.{NODE_BYTES}
 use Rattle.hm_btree.proofs.ExchangeLemmas.{apart_root, inside_whole, tree_exchanged}
 use Rattle.hm_btree.proofs.InsertLemmas.{spends_add, spends_none}
 use Rattle.hm_btree.proofs.KeptLemmas.{kept_read, kept_change, kept_both}
-use Rattle.hm_btree.proofs.PassLemmas.{place_cause_below, place_cause_write}
+use Rattle.hm_btree.proofs.PassLemmas.{place_cause_below}
 use Rattle.hm_btree.proofs.RootLemmas.{root_works}
 use Rattle.hm_btree.proofs.move_node.move_on_way.Goals as goal
 

@@ -7,7 +7,7 @@ use Rattle.hm_types.specs.declared.fault.Fault.{Fault}
 use Rattle.hm_key.specs.Key.{greatest_key}
 use Rattle.hm_node.specs.Node.{node_in}
 use Rattle.hm_search.specs.Descent.{PassesHere}
-use Rattle.hm_search.specs.Tree.{node_at, height_of, root_place, IsStoredTree}
+use Rattle.hm_search.specs.Tree.{node_at, height_of, IsStoredTree}
 use Rattle.hm_search.specs.declared.subtree.Subtree.{Subtree}
 use Rattle.hm_btree.specs.Space.{HasAdded, HasLost}
 use Rattle.hm_btree.specs.declared.space.TheConstants.{NODE_BYTES}

@@ -20,18 +20,18 @@ pub returns-in-Leaf-clause-ok : goal.returns-in-Leaf-clause-ok
 returns-in-Leaf-clause-ok g t c =
     let key = key_of c.args.at.now in
     let told = g.P.Pages.pages c.args.pages.now in
-    let seen = glances_leaf c.args.subtree.now told key c.in_ok-leaf.field-0 c.in-Leaf.leaf c.in-Leaf.is c.in_ok-leaf.ensures.sees in
-    leaf_reached told c.args.subtree.now c.in-Leaf.leaf.first
+    let seen = glances_leaf c.args.subtree.now told key c.in_ok-seen.field-0 c.in-Leaf.seen c.in-Leaf.is c.in_ok-seen.ensures.sees in
+    leaf_reached told c.args.subtree.now c.in-Leaf.seen.first
     (λ map height. first_from key (elements_in map height (node_at map c.args.subtree.now.at))) c.here.result c.here.ensures
-    (leaf_told told c.args.subtree.now key (leaf_node seen.leaf) seen.leaf c.in-Leaf.leaf.first refl seen.there
+    (leaf_told told c.args.subtree.now key (leaf_node seen.leaf) seen.leaf c.in-Leaf.seen.first refl seen.there
     (λ order. (seen.view.ordered order).first))
 
 pub first_below-requires : goal.first_below-requires
 first_below-requires g t c κs within =
     let key = key_of c.args.at.now in
     let told = g.P.Pages.pages c.args.pages.now in
-    let seen = glances_inner c.args.subtree.now told key c.in_ok-leaf.field-0 c.in-Inner.inner c.in-Inner.is
-    c.in_ok-leaf.ensures.sees in
+    let seen = glances_inner c.args.subtree.now told key c.in_ok-seen.field-0 c.in-Inner.inner c.in-Inner.is
+    c.in_ok-seen.ensures.sees in
     let smaller : levels_below c.in-Inner.inner.child < levels_below c.args.subtree.now =
     goes_lower c.args.subtree.now seen.inner seen.view.child.0 c.in-Inner.inner.child seen.level seen.meets seen.view.child.1 in
     let spot : IsNodeOffset c.in-Inner.inner.child.at = child_spot seen.inner seen.view.child.0 c.in-Inner.inner.child seen.fields seen.view.child.1 in
@@ -42,8 +42,8 @@ pub returns-in_err-found-in-Inner-clause-steps : goal.returns-in_err-found-in-In
 returns-in_err-found-in-Inner-clause-steps g t c =
     let key = key_of c.args.at.now in
     let told = g.P.Pages.pages c.args.pages.now in
-    let seen = glances_inner c.args.subtree.now told key c.in_ok-leaf.field-0 c.in-Inner.inner c.in-Inner.is
-    c.in_ok-leaf.ensures.sees in
+    let seen = glances_inner c.args.subtree.now told key c.in_ok-seen.field-0 c.in-Inner.inner c.in-Inner.is
+    c.in_ok-seen.ensures.sees in
     omega (
       arith,
       c.step_to.ensures.step,
@@ -56,8 +56,8 @@ pub returns-in_err-found-in-Inner-clause-cause : goal.returns-in_err-found-in-In
 returns-in_err-found-in-Inner-clause-cause g t c =
     let key = key_of c.args.at.now in
     let told = g.P.Pages.pages c.args.pages.now in
-    let seen = glances_inner c.args.subtree.now told key c.in_ok-leaf.field-0 c.in-Inner.inner c.in-Inner.is
-    c.in_ok-leaf.ensures.sees in
+    let seen = glances_inner c.args.subtree.now told key c.in_ok-seen.field-0 c.in-Inner.inner c.in-Inner.is
+    c.in_ok-seen.ensures.sees in
     let old = g.P.Counted.faults c.args.pages.now in
     let new = g.P.Counted.faults c.first_below.new.pages in
     let whole = cause_below told (g.P.Pages.pages c.step_to.new.pages) c.args.subtree.now c.in-Inner.inner.child old
@@ -71,8 +71,8 @@ pub first_beside-requires-clause-spot : goal.first_beside-requires-clause-spot
 first_beside-requires-clause-spot g t c =
     let key = key_of c.args.at.now in
     let told = g.P.Pages.pages c.args.pages.now in
-    let seen = glances_inner c.args.subtree.now told key c.in_ok-leaf.field-0 c.in-Inner.inner c.in-Inner.is
-    c.in_ok-leaf.ensures.sees in
+    let seen = glances_inner c.args.subtree.now told key c.in_ok-seen.field-0 c.in-Inner.inner c.in-Inner.is
+    c.in_ok-seen.ensures.sees in
     let next = next_at c.in-Inner.inner.next c.in-Some.next seen.inner c.in-Some.is seen.view.next in
     let spot : IsNodeOffset c.in-Some.next.at = child_spot seen.inner next.0 c.in-Some.next seen.fields next.1 in
     rw c.in-Some.is spot
@@ -81,8 +81,8 @@ pub first_beside-requires-clause-levels : goal.first_beside-requires-clause-leve
 first_beside-requires-clause-levels g t c =
     let key = key_of c.args.at.now in
     let told = g.P.Pages.pages c.args.pages.now in
-    let seen = glances_inner c.args.subtree.now told key c.in_ok-leaf.field-0 c.in-Inner.inner c.in-Inner.is
-    c.in_ok-leaf.ensures.sees in
+    let seen = glances_inner c.args.subtree.now told key c.in_ok-seen.field-0 c.in-Inner.inner c.in-Inner.is
+    c.in_ok-seen.ensures.sees in
     let next = next_at c.in-Inner.inner.next c.in-Some.next seen.inner c.in-Some.is seen.view.next in
     let levels : 2 ≤ levels_below c.in-Some.next = child_levels seen.inner next.0 c.in-Some.next seen.level next.1 in
     rw c.in-Some.is levels
@@ -91,8 +91,8 @@ pub returns-in_err-first_beside-in-Some-clause-steps : goal.returns-in_err-first
 returns-in_err-first_beside-in-Some-clause-steps g t c =
     let key = key_of c.args.at.now in
     let told = g.P.Pages.pages c.args.pages.now in
-    let seen = glances_inner c.args.subtree.now told key c.in_ok-leaf.field-0 c.in-Inner.inner c.in-Inner.is
-    c.in_ok-leaf.ensures.sees in
+    let seen = glances_inner c.args.subtree.now told key c.in_ok-seen.field-0 c.in-Inner.inner c.in-Inner.is
+    c.in_ok-seen.ensures.sees in
     let next = next_at c.in-Inner.inner.next c.in-Some.next seen.inner c.in-Some.is seen.view.next in
     omega (
       arith,
@@ -107,8 +107,8 @@ pub returns-in_err-first_beside-in-Some-clause-cause : goal.returns-in_err-first
 returns-in_err-first_beside-in-Some-clause-cause g t c =
     let key = key_of c.args.at.now in
     let told = g.P.Pages.pages c.args.pages.now in
-    let seen = glances_inner c.args.subtree.now told key c.in_ok-leaf.field-0 c.in-Inner.inner c.in-Inner.is
-    c.in_ok-leaf.ensures.sees in
+    let seen = glances_inner c.args.subtree.now told key c.in_ok-seen.field-0 c.in-Inner.inner c.in-Inner.is
+    c.in_ok-seen.ensures.sees in
     let next = next_at c.in-Inner.inner.next c.in-Some.next seen.inner c.in-Some.is seen.view.next in
     let old = g.P.Counted.faults c.args.pages.now in
     let new = g.P.Counted.faults c.first_beside.new.pages in
@@ -126,8 +126,8 @@ pub returns-in-Found-clause-ok : goal.returns-in-Found-clause-ok
 returns-in-Found-clause-ok g t c =
     let key = key_of c.args.at.now in
     let told = g.P.Pages.pages c.args.pages.now in
-    let seen = glances_inner c.args.subtree.now told key c.in_ok-leaf.field-0 c.in-Inner.inner c.in-Inner.is
-    c.in_ok-leaf.ensures.sees in
+    let seen = glances_inner c.args.subtree.now told key c.in_ok-seen.field-0 c.in-Inner.inner c.in-Inner.is
+    c.in_ok-seen.ensures.sees in
     first_found_told told (g.P.Pages.pages c.step_to.new.pages) c.args.subtree.now c.in-Inner.inner.child key seen.inner
     c.in_ok-found-in-Inner.field-0 c.in-Found.found c.step_to.ensures.same.pages seen.there (λ order. (seen.view.ordered order).child)
     c.in-Found.is c.in_ok-found-in-Inner.ensures.ok
@@ -136,8 +136,8 @@ pub returns-in-Found-clause-steps : goal.returns-in-Found-clause-steps
 returns-in-Found-clause-steps g t c =
     let key = key_of c.args.at.now in
     let told = g.P.Pages.pages c.args.pages.now in
-    let seen = glances_inner c.args.subtree.now told key c.in_ok-leaf.field-0 c.in-Inner.inner c.in-Inner.is
-    c.in_ok-leaf.ensures.sees in
+    let seen = glances_inner c.args.subtree.now told key c.in_ok-seen.field-0 c.in-Inner.inner c.in-Inner.is
+    c.in_ok-seen.ensures.sees in
     omega (
       arith,
       c.step_to.ensures.step,
@@ -150,8 +150,8 @@ pub returns-in_ok-first_beside-in-Some-clause-ok : goal.returns-in_ok-first_besi
 returns-in_ok-first_beside-in-Some-clause-ok g t c =
     let key = key_of c.args.at.now in
     let told = g.P.Pages.pages c.args.pages.now in
-    let seen = glances_inner c.args.subtree.now told key c.in_ok-leaf.field-0 c.in-Inner.inner c.in-Inner.is
-    c.in_ok-leaf.ensures.sees in
+    let seen = glances_inner c.args.subtree.now told key c.in_ok-seen.field-0 c.in-Inner.inner c.in-Inner.is
+    c.in_ok-seen.ensures.sees in
     first_next_told told (g.P.Pages.pages c.step_to.new.pages) (g.P.Pages.pages c.first_below.new.pages) c.args.subtree.now
     c.in-Inner.inner.child c.in-Some.next key seen.inner c.in_ok-found-in-Inner.field-0 c.in_ok-first_beside-in-Some.field-0 c.beside.result
     c.step_to.ensures.same.pages (c.first_below.ensures.same.pages ∙ c.step_to.ensures.same.pages) seen.there (λ order. (seen.view.ordered order).child)
@@ -162,8 +162,8 @@ pub returns-in_ok-first_beside-in-Some-clause-steps : goal.returns-in_ok-first_b
 returns-in_ok-first_beside-in-Some-clause-steps g t c =
     let key = key_of c.args.at.now in
     let told = g.P.Pages.pages c.args.pages.now in
-    let seen = glances_inner c.args.subtree.now told key c.in_ok-leaf.field-0 c.in-Inner.inner c.in-Inner.is
-    c.in_ok-leaf.ensures.sees in
+    let seen = glances_inner c.args.subtree.now told key c.in_ok-seen.field-0 c.in-Inner.inner c.in-Inner.is
+    c.in_ok-seen.ensures.sees in
     let next = next_at c.in-Inner.inner.next c.in-Some.next seen.inner c.in-Some.is seen.view.next in
     omega (
       arith,
@@ -178,8 +178,8 @@ pub returns-in-None-clause-ok : goal.returns-in-None-clause-ok
 returns-in-None-clause-ok g t c =
     let key = key_of c.args.at.now in
     let told = g.P.Pages.pages c.args.pages.now in
-    let seen = glances_inner c.args.subtree.now told key c.in_ok-leaf.field-0 c.in-Inner.inner c.in-Inner.is
-    c.in_ok-leaf.ensures.sees in
+    let seen = glances_inner c.args.subtree.now told key c.in_ok-seen.field-0 c.in-Inner.inner c.in-Inner.is
+    c.in_ok-seen.ensures.sees in
     first_missed_told told (g.P.Pages.pages c.step_to.new.pages) c.args.subtree.now c.in-Inner.inner.child key seen.inner
     c.in_ok-found-in-Inner.field-0 c.step_to.ensures.same.pages seen.there (λ order. (seen.view.ordered order).child) c.in-Missed.is
     (λ order. last_place seen.inner.level seen.inner.right seen.inner.places.items (holder_place key seen.inner.places.items + 1)
@@ -189,8 +189,8 @@ pub returns-in-None-clause-missed : goal.returns-in-None-clause-missed
 returns-in-None-clause-missed g t c same =
     let key = key_of c.args.at.now in
     let told = g.P.Pages.pages c.args.pages.now in
-    let seen = glances_inner c.args.subtree.now told key c.in_ok-leaf.field-0 c.in-Inner.inner c.in-Inner.is
-    c.in_ok-leaf.ensures.sees in
+    let seen = glances_inner c.args.subtree.now told key c.in_ok-seen.field-0 c.in-Inner.inner c.in-Inner.is
+    c.in_ok-seen.ensures.sees in
     omega (
       arith,
       c.step_to.ensures.step,
@@ -203,8 +203,8 @@ pub returns-in-None-clause-steps : goal.returns-in-None-clause-steps
 returns-in-None-clause-steps g t c =
     let key = key_of c.args.at.now in
     let told = g.P.Pages.pages c.args.pages.now in
-    let seen = glances_inner c.args.subtree.now told key c.in_ok-leaf.field-0 c.in-Inner.inner c.in-Inner.is
-    c.in_ok-leaf.ensures.sees in
+    let seen = glances_inner c.args.subtree.now told key c.in_ok-seen.field-0 c.in-Inner.inner c.in-Inner.is
+    c.in_ok-seen.ensures.sees in
     omega (
       arith,
       c.step_to.ensures.step,
@@ -217,8 +217,8 @@ pub returns-in-Nothing-clause-ok : goal.returns-in-Nothing-clause-ok
 returns-in-Nothing-clause-ok g t c =
     let key = key_of c.args.at.now in
     let told = g.P.Pages.pages c.args.pages.now in
-    let seen = glances_inner c.args.subtree.now told key c.in_ok-leaf.field-0 c.in-Inner.inner c.in-Inner.is
-    c.in_ok-leaf.ensures.sees in
+    let seen = glances_inner c.args.subtree.now told key c.in_ok-seen.field-0 c.in-Inner.inner c.in-Inner.is
+    c.in_ok-seen.ensures.sees in
     nothing_told told (g.P.Pages.pages c.step_to.new.pages) c.args.subtree.now c.in-Inner.inner.child seen.inner
     (holder_place key seen.inner.places.items) c.in_ok-found-in-Inner.field-0
     (λ map height. first_from key (elements_in map height (node_at map c.args.subtree.now.at)))
@@ -229,8 +229,8 @@ pub returns-in-Nothing-clause-steps : goal.returns-in-Nothing-clause-steps
 returns-in-Nothing-clause-steps g t c =
     let key = key_of c.args.at.now in
     let told = g.P.Pages.pages c.args.pages.now in
-    let seen = glances_inner c.args.subtree.now told key c.in_ok-leaf.field-0 c.in-Inner.inner c.in-Inner.is
-    c.in_ok-leaf.ensures.sees in
+    let seen = glances_inner c.args.subtree.now told key c.in_ok-seen.field-0 c.in-Inner.inner c.in-Inner.is
+    c.in_ok-seen.ensures.sees in
     omega (
       arith,
       c.step_to.ensures.step,

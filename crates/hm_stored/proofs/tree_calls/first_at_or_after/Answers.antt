@@ -10,7 +10,7 @@ pub returns-clause-reads : goal.returns-clause-reads
 unfolding heap_of
 returns-clause-reads g c =
     let heap = λ (s : Space g.row.D.Denot g.D.Disk). heap_of (contents s.pages.store) (g.D.Disk.told s.disk) s.books in
-    let begun = c.over-tree.result in
+    let begun = c.over_near-tree.result in
     let tree = c.first_at_or_after-answer.new.self in
     let did = c.first_at_or_after-answer.ensures in
     let back = c.into_parts-space.result in
@@ -23,5 +23,6 @@ returns-clause-reads g c =
       frame = ap (λ f. f.0) did.frame;
     } in
     lent_read heap c.args.space.now begun.space.now tree.space.now back.0.now _ c.args.root begun.root tree.root back.1 begun.intact tree.intact read
-    (ap (λ m. m.now) c.over-tree.ensures.space) c.over-tree.ensures.root c.over-tree.ensures.intact (ap (λ m. m.now) c.into_parts-space.ensures.space)
+    (ap (λ m. m.now) c.over_near-tree.ensures.space) c.over_near-tree.ensures.root c.over_near-tree.ensures.intact
+    (ap (λ m. m.now) c.into_parts-space.ensures.space)
     c.into_parts-space.ensures.root (search rules) c.into_parts-space.ensures.tree

@@ -1,5 +1,6 @@
 use Rattle.std.proofs.Common.{ap}
 use Rattle.std.specs.Prelude.{Option}
+use Rattle.std.proofs.lemmas.Option.{IfSome_then}
 use Rattle.hm_fields.specs.Pages.{PageMap}
 use Rattle.hm_key.specs.Elements.{last_to}
 use Rattle.hm_key.specs.Key.{key_of}
@@ -9,7 +10,8 @@ use Rattle.hm_btree.proofs.store.BTreeElementStore.last_at_or_before.Goals as go
 
 pub returns-clause-ok : goal.returns-clause-ok
 returns-clause-ok g c = picked_in_store (last_to (key_of c.args.at.now)) c.args.self.now.intact (g.S.Pages.pages c.args.self.now.space)
-    c.args.self.now.root c.last_uncounted.result c.args.self.now.sound c.last_uncounted.ensures.ok
+    c.args.self.now.root c.last_uncounted.result c.args.self.now.sound
+    (IfSome_then (g.S.Pages.pages c.args.self.now.space) c.last_uncounted.ensures.ok (λ pages found sound whole. found sound))
 
 pub returns-clause-keeps : goal.returns-clause-keeps
 returns-clause-keeps g c =
