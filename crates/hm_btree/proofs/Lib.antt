@@ -24,6 +24,7 @@ pub mod LocalLemmas
 pub mod LowestLemmas
 pub mod MarkLemmas
 pub mod MoveLemmas
+pub mod NearLemmas
 pub mod NeighbourLemmas
 pub mod NodeLemmas
 pub mod OrderLemmas

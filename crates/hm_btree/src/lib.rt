@@ -9,6 +9,7 @@ mod join;
 mod leaf_edit;
 mod mem_space;
 mod move_node;
+mod near;
 mod node_edit;
 mod node_in;
 mod node_table;

@@ -63,8 +63,8 @@ pub fn remove_below<S: NodeSpace, L: Ledger>(
     Ok(set_mirror(page, i, mirror_in(&child)))
 }
 
-// Removes the element at the key of `at` from a leaf, and answers whether one stands there.
-fn remove_in_leaf(page: &mut Page, at: &Base) -> bool
+/// Removes the element at the key of `at` from a leaf, and answers whether one stands there.
+pub fn remove_in_leaf(page: &mut Page, at: &Base) -> bool
     requires { IsLeafPage page.old }
     ensures { RemovesInLeaf (key_of at.now) page.old page.new result }
 {

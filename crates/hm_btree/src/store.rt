@@ -56,7 +56,9 @@ impl<S: NodeSpace> ElementStore for BTree<S> {
         self.require_intact()?;
         self.require_root()?;
         self.intact = false;
-        let root = remove_uncounted::<S, Brand>(&mut self.space, self.root, at, Blank::new(1))?;
+        let near = self.near;
+        let blank = Blank::new(1);
+        let root = remove_uncounted::<S, Brand>(&mut self.space, self.root, near, at, blank)?;
         self.root = root;
         self.intact = true;
         Ok(())

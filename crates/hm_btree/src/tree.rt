@@ -18,8 +18,8 @@ pub struct BTree<S: NodeSpace> {
     pub(crate) root: HOff,
     // Whether no call has failed in the middle of a change.
     pub(crate) intact: bool,
-    // The leaf to which the last search for a first element came. A walk looks there first, and nothing
-    // rests on it: another node may stand there by now, or none.
+    // The leaf to which the last search for a first element came. A walk looks there first, and so does a
+    // removal. Nothing rests on it: another node may stand there by now, or none.
     pub(crate) near: HOff,
     ghost sound: { ∥ IsIntact intact (S.pages space) root ∥₁ },
 }

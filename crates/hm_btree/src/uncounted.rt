@@ -19,9 +19,9 @@ ghost use Rattle.hm_btree.specs.Steps.{Opens};
 ghost use Rattle.hm_btree.specs.Tree.{IsTreeSpace};
 
 use crate::change::{Change, change_element};
+use crate::near::remove_by;
 use crate::root::insert_from;
 use crate::space::NodeSpace;
-use crate::top::remove_from;
 use hm_key::{Base, Element};
 use hm_search::{Steps, first_near, last_at_or_before, unchanged_until};
 use hm_types::{Counted, Fault, HOff, INSERT_ROOM, Id, TREE_ZONE};
@@ -133,10 +133,12 @@ pub fn change_uncounted<S: NodeSpace, L: Ledger>(
     change_element(space, root, at, change, &mut steps)
 }
 
-/// Removes the element at the key of `at`, and answers the root that the tree then has.
+/// Removes the element at the key of `at`, by a look at the leaf `near` first, and answers the root that
+/// the tree then has.
 pub fn remove_uncounted<S: NodeSpace, L: Ledger>(
     space: &mut S,
     root: HOff,
+    near: HOff,
     at: &Base,
     blank: Blank,
 ) -> Result<HOff, Fault>
@@ -152,5 +154,5 @@ pub fn remove_uncounted<S: NodeSpace, L: Ledger>(
         (S.faults space.old) (S.faults space.new) result }
 {
     let mut steps = Steps::<L>::begin(blank);
-    remove_from(space, root, at, &mut steps)
+    remove_by(space, root, near, at, &mut steps)
 }

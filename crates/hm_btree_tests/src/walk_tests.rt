@@ -1,4 +1,4 @@
-// Walks, which look first at the leaf of the element before.
+// Walks and removals on them, which look first at the leaf of the element before.
 use crate::tests::{element, empty, insert, levels_of};
 use hm_btree::{BTree, NODE_BYTES, NodeTable};
 use hm_key::{Base, ElementStore};
@@ -61,5 +61,49 @@ fn a_walk_goes_on_where_its_leaf_moves_and_loses_elements(rt: HostRuntime) -> Re
         }
     }
     assert_eq!(rt; tree.first_at_or_after(&at)?, None);
+    Ok(())
+}
+
+// Walks through a tree with so many elements, and removes each one whose number is not a multiple of `kept`.
+fn thin_out(tree: &mut BTree<NodeTable>, elements: u64, kept: u64) -> Result<(), Fail> {
+    let mut at = Base::least();
+    while let Some(found) = tree.first_at_or_after(&at)? {
+        let i = found.base.key;
+        at = element(i.saturating_add(1), 1).base;
+        if i >= elements || i % kept.max(1) > 0 {
+            tree.remove(&found.base)?;
+        }
+    }
+    Ok(())
+}
+
+#[test]
+fn a_removal_on_a_walk_asks_for_its_leaf_alone(rt: HostRuntime) -> Result<(), Fail> {
+    let (mut tree, levels) = levels_of(rising(rt.alloc(), 10_000)?)?;
+    let before = tree.space().reads();
+    thin_out(&mut tree, 10_000, 2)?;
+    let reads = tree.space().reads().saturating_sub(before);
+    let nodes = tree.space().len() as u64;
+    let most = nodes.saturating_mul(levels.saturating_mul(2).saturating_add(2));
+    assert!(rt;
+        reads <= most.saturating_add(15_001),
+        "{reads} reads of {nodes} nodes"
+    );
+    let mut at = Base::least();
+    for i in 0..5_000u64 {
+        let left = element(i.saturating_mul(2), 1);
+        assert_eq!(rt; tree.first_at_or_after(&at)?, Some(left));
+        at = element(i.saturating_mul(2).saturating_add(1), 1).base;
+    }
+    assert_eq!(rt; tree.first_at_or_after(&at)?, None);
+    Ok(())
+}
+
+#[test]
+fn removals_on_a_walk_empty_a_tree(rt: HostRuntime) -> Result<(), Fail> {
+    let mut tree = rising(rt.alloc(), 10_000)?;
+    thin_out(&mut tree, 0, 1)?;
+    assert_eq!(rt; tree.first_at_or_after(&Base::least())?, None);
+    assert_eq!(rt; tree.space().len(), 1);
     Ok(())
 }

@@ -61,7 +61,7 @@ impl<D: Disk> ElementStore for Stored<D> {
         if !self.is_open {
             return Err(Fault::NoMemory);
         }
-        let (root, answer) = tree_calls::remove(&mut self.space, self.root, at);
+        let (root, answer) = tree_calls::remove(&mut self.space, self.root, self.near, at);
         self.root = root;
         answer
     }

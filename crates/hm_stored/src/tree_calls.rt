@@ -70,10 +70,11 @@ pub(crate) fn set_delete<D: Disk>(
     (root, answer)
 }
 
-/// Takes the element at the key of `at` out.
+/// Takes the element at the key of `at` out, by a look at the leaf `near` first.
 pub(crate) fn remove<D: Disk>(
     space: &mut Space<D>,
     root: HOff,
+    near: HOff,
     at: &Base,
 ) -> (HOff, Result<(), Fault>)
     requires tree { HoldsTree (pages_of (heap space.old)) root }
@@ -85,7 +86,7 @@ pub(crate) fn remove<D: Disk>(
         (D.faults space.old.disk) (D.faults space.new.disk) result.1 }
     ensures past { D.past space.new.disk ≡ D.past space.old.disk }
 {
-    let mut tree = BTree::over(space, root);
+    let mut tree = BTree::over_near(space, root, near);
     let answer = tree.remove(at);
     let (space, root) = tree.into_parts();
     space.end_change(answer.is_ok());

@@ -36,10 +36,11 @@ pub record RemovesBelow {S : Type 0} (pages_of : S → Option PageMap) (extents_
   pub kept : HasKept pages_of extents_of old new
   pub same : changed ≡ false → after ≡ before
 
--- an element was taken out of the leaf in a page, at the place of a key if the leaf is in order
+-- an element was taken out of the leaf in a page: if the leaf is in order the one at a key, which stood there
 pub record RemovesAt (key : Key) (before after : List ℕ) : Type 0 where
   pub at : ℕ
   pub place : HasLeafOrder (leaf_in before) → at ≡ leading key (leaf_in before).places.items
+  pub there : HasLeafOrder (leaf_in before) → IsSome (element_at key (leaf_in before).places.items)
   pub leaf : leaf_in after ≡ leaf_of (leaf_in before).mirror (remove (leaf_in before).places.items at)
 
 -- The element at a key was taken out of the leaf in a page, if one stands there, and it is said whether one did: for

@@ -14,7 +14,7 @@ pub returns-clause-writes : goal.returns-clause-writes
 unfolding heap_of
 returns-clause-writes g c =
     let heap = λ (s : Space g.row.D.Denot g.D.Disk). heap_of (contents s.pages.store) (g.D.Disk.told s.disk) s.books in
-    let begun = c.over-tree.result in
+    let begun = c.over_near-tree.result in
     let tree = c.remove-answer.new.self in
     let did = c.remove-answer.ensures in
     let back = c.into_parts-space.result in
@@ -27,6 +27,6 @@ returns-clause-writes g c =
     } in
     lent_written nothing change marked heap c.args.space.now begun.space.now tree.space.now back.0.now c.end_change.new.self _
     c.args.root begun.root tree.root back.1 begun.intact tree.intact c.is_ok.result c.args.space.now.books.most c.remove-answer.result wrote
-    (ap (λ m. m.now) c.over-tree.ensures.space) c.over-tree.ensures.root c.over-tree.ensures.intact
+    (ap (λ m. m.now) c.over_near-tree.ensures.space) c.over_near-tree.ensures.root c.over_near-tree.ensures.intact
     (ap (λ m. m.now) c.into_parts-space.ensures.space) c.into_parts-space.ensures.root (search rules) c.into_parts-space.ensures.tree
     c.is_ok.ensures.value c.end_change.ensures.ends
