@@ -17,6 +17,9 @@ use std::alloc::Global;
 const USAGE: &[u8] =
     b"usage: hammer VOLUME [--newfs BIGBLOCKS] [--stream-in FILE] [--stream-out FILE] [--generate N]\n";
 
+// Room for the line of any reply but a listing, bytes of a file and a long target: such a line takes memory once.
+const LINE_BYTES: usize = 128;
+
 /// Prints the line of one entry, in one piece.
 pub(crate) fn print_entry<K: Sink>(alloc: Global, entry: &Entry, out: &mut K) -> Result<(), RunStop>
     ensures ok { OnOk result (Gains (K.held out.old) (printed_line (entry_words entry.now)) (K.held out.new)) }
@@ -85,7 +88,7 @@ fn put_line<K: Sink>(line: &[u8], out: &mut K) -> Result<(), RunStop>
 fn entry_line(alloc: Global, entry: &Entry) -> Result<Vec<u8>, NoMemory>
     ensures { IfOk result (λ line. line.items ≡ printed_line (entry_words entry.now)) }
 {
-    let mut line = Vec::new(alloc);
+    let mut line = Vec::with_capacity(alloc, LINE_BYTES)?;
     push_entry(alloc, &mut line, entry)?;
     line.push(b'\n')?;
     Ok(line)
@@ -94,7 +97,7 @@ fn entry_line(alloc: Global, entry: &Entry) -> Result<Vec<u8>, NoMemory>
 fn line_with_ending(alloc: Global, opening: &Entry, ending: &Entry) -> Result<Vec<u8>, NoMemory>
     ensures { IfOk result (λ line. line.items ≡ ended_line opening.now ending.now) }
 {
-    let mut line = Vec::new(alloc);
+    let mut line = Vec::with_capacity(alloc, LINE_BYTES)?;
     push_entry(alloc, &mut line, opening)?;
     line.push(b' ')?;
     push_entry(alloc, &mut line, ending)?;
@@ -105,7 +108,7 @@ fn line_with_ending(alloc: Global, opening: &Entry, ending: &Entry) -> Result<Ve
 fn line_without_ending(alloc: Global, opening: &Entry) -> Result<Vec<u8>, NoMemory>
     ensures { IfOk result (λ line. line.items ≡ unended_line opening.now) }
 {
-    let mut line = Vec::new(alloc);
+    let mut line = Vec::with_capacity(alloc, LINE_BYTES)?;
     push_entry(alloc, &mut line, opening)?;
     line.extend_from_slice(b" - ids spent\n")?;
     Ok(line)
@@ -115,8 +118,9 @@ fn line_without_ending(alloc: Global, opening: &Entry) -> Result<Vec<u8>, NoMemo
 fn push_entry(alloc: Global, line: &mut Vec<u8>, entry: &Entry) -> Result<(), NoMemory>
     ensures { OnOk result (line.new.items ≡ line.old.items ++ entry_words entry.now) }
 {
-    let id = entry.id;
-    line.extend_from_slice(format!(in alloc; "{id} ")?.as_bytes())?;
+    line.extend_from_slice(b"0x")?;
+    line.extend_from_slice(&hex_digits(entry.id.0))?;
+    line.push(b' ')?;
     push_answer(alloc, line, &entry.call, &entry.reply)
 }
 
