@@ -1,7 +1,7 @@
 -- A leaf of a tree that gets other elements and keeps its `mirror`. Each node above it stays, so it doesn't matter how one came to the leaf.
-use Rattle.std.proofs.Common.{◌≡◌, ◌≢◌, Bool, true, false, true≢false, ◌||◌, ℕ, zero, suc, ◌≤◌, inl, inr, List, [], ◌∷◌, ◌++◌, length, refl, sym, ap, subst}
+use Rattle.std.proofs.Common.{◌≡◌, ◌≢◌, Bool, true, false, true≢false, ◌||◌, ℕ, zero, suc, ◌≤◌, inl, List, [], ◌∷◌, ◌++◌, length, refl, sym, ap, subst}
 use Rattle.std.proofs.Common.{◌∙◌, ◌+◌, arith, nat_eq, eqb-true, append-nil, remove, Some, None}
-use Rattle.std.specs.Prelude.{Option, IsSome, is_some, IfSome, if◌then◌else◌}
+use Rattle.std.specs.Prelude.{Option, IsSome, IfSome, if◌then◌else◌}
 use Rattle.std.specs.Cmp.{Equal-is}
 use Rattle.std.specs.List.{AllByRecursion, list_any}
 use Rattle.std.specs.List.Sorted.{IsStrictlySortedBy}
@@ -23,7 +23,7 @@ use Rattle.hm_key.proofs.PlaceLemmas.{removed-place, IsPlace-within}
 use Rattle.hm_node.specs.Edits.{IsLeafPage}
 use Rattle.hm_node.specs.Head.{head_in}
 use Rattle.hm_node.specs.Leaf.{element_in, leaf_in, HasLeafOrder}
-use Rattle.hm_node.specs.Node.{node_in, level_of, Spells}
+use Rattle.hm_node.specs.Node.{node_in, Spells}
 use Rattle.hm_node.specs.Places.{place}
 use Rattle.hm_node.specs.declared.inner.Child.{Child}
 use Rattle.hm_node.specs.declared.leaf.Leaf.{Leaf}
@@ -32,15 +32,15 @@ use Rattle.hm_node.specs.declared.node.Node.TheVariants.{Leaf as leaf_node, Inne
 use Rattle.hm_node.proofs.PlaceLemmas.{first_length}
 use Rattle.hm_node.proofs.ReadyLemmas.{leaf_there}
 use Rattle.hm_search.specs.Place.{IsInside, FitsCount, FitsLevel, FitsMirror}
-use Rattle.hm_search.specs.Reach.{is_under, IsSameUnder}
+use Rattle.hm_search.specs.Reach.{is_under}
 use Rattle.hm_search.specs.Tree.{node_at, elements_in, elements_of, mark_in, mark_of, reaches, Reaches, height_of, root_place, next_left, child_place}
-use Rattle.hm_search.specs.Tree.{places_of, HasChildren, IsTree, IsStoredTree, IsSoundTree}
+use Rattle.hm_search.specs.Tree.{HasChildren, IsTree, IsStoredTree, IsSoundTree}
 use Rattle.hm_search.specs.declared.subtree.Parent.{Parent}
 use Rattle.hm_search.specs.declared.subtree.Subtree.{Subtree}
 use Rattle.hm_search.proofs.ChildLemmas.{later_sorted}
 use Rattle.hm_search.proofs.ContentLemmas.{tree_content}
 use Rattle.hm_search.proofs.FrameLemmas.{holder_same}
-use Rattle.hm_search.proofs.ReachLemmas.{either, apart_children}
+use Rattle.hm_search.proofs.ReachLemmas.{apart_children}
 use Rattle.hm_search.proofs.SearchLemmas.{leaf_elements}
 use Rattle.hm_search.proofs.WithinLemmas.{front_sorted, rest_sorted}
 use Rattle.hm_btree.specs.Below.{AreRising, AreStored, IsLocal, elements_under, has_under}
@@ -177,8 +177,11 @@ module _ (old new : PageMap) (x : ℕ) (leaf after : Leaf) (turns : TurnsLeaf ol
     each : ((node : Node) → reaches new height node y ≡ reaches old height node y) → (cs : List Child)
         → list_any (is_under new height y) cs ≡ list_any (is_under old height y) cs
     each below [] = refl
-    each below (c ∷ cs) = rw (same_at (λ map node. reaches map height node y)
-        (leaf_reaches new height after y ∙ sym (leaf_reaches old height leaf y)) below c.child, each below cs) refl
+    each below (c ∷ cs) = rw (
+      same_at (λ map node. reaches map height node y)
+          (leaf_reaches new height after y ∙ sym (leaf_reaches old height leaf y)) below c.child,
+      each below cs,
+    ) refl
 
   -- the marks
   turned_mark : (key : Key) (height : ℕ) (node : Node) → mark_in new height node key ≡ mark_in old height node key
@@ -191,8 +194,11 @@ module _ (old new : PageMap) (x : ℕ) (leaf after : Leaf) (turns : TurnsLeaf ol
         each : ((node : Node) → mark_in new height node key ≡ mark_in old height node key) → (cs : List Child)
             → AllByRecursion (λ (c : Child). mark_in new height (node_at new c.child) key ≡ mark_in old height (node_at old c.child) key) cs
         each below [] = tt
-        each below (c ∷ cs) = (same_at (λ map node. mark_in map height node key)
-            (leaf_mark new height after key ∙ turns.mirror ∙ sym (leaf_mark old height leaf key)) below c.child, each below cs)
+        each below (c ∷ cs) = (
+          same_at (λ map node. mark_in map height node key)
+              (leaf_mark new height after key ∙ turns.mirror ∙ sym (leaf_mark old height leaf key)) below c.child,
+          each below cs,
+        )
 
   -- all is sound that was
   module _ (height : ℕ) (below : (node : Node) → HasChildren old height node → HasChildren new height node) where
@@ -274,22 +280,22 @@ module _ (old new : PageMap) (x : ℕ) (leaf after : Leaf) (turns : TurnsLeaf ol
     turned_under level right [] rising stored is = absurd (true≢false (sym is))
     turned_under level right (c ∷ cs) rising stored is =
         by_test (is_under old height x c) refl is (λ later. turned_under level right cs (later_sorted right c cs rising) stored.1 later) where
-      by_test : (b : Bool) → is_under old height x c ≡ b → (b || has_under old height cs x) ≡ true
-          → (has_under old height cs x ≡ true
-          → HasTurned (elements_under old height cs) (elements_under new height cs) leaf.places.items after.places.items)
-          → HasTurned (elements_under old height (c ∷ cs)) (elements_under new height (c ∷ cs)) leaf.places.items after.places.items
-      by_test true here is later =
-          let rest = stays_under height right cs (apart_children old height x level right c cs rising stored here) in
-          subst (λ (l : List Element). HasTurned (was_under c ++ elements_under old height cs) (is_now_under c ++ l) leaf.places.items after.places.items)
-          (sym rest) (turned_front (was_under c) (is_now_under c) (elements_under old height cs) leaf.places.items after.places.items
-          (turned_one (child_place level (next_left right cs) c) stored.0 here))
-      by_test false here is later =
-          let alone : has_under old height (c ∷ []) x ≡ false = rw here refl in
-          let same : is_now_under c ≡ was_under c =
-          sym (append-nil (is_now_under c)) ∙ stays_under height right (c ∷ []) alone ∙ append-nil (was_under c) in
-          subst (λ (l : List Element). HasTurned (was_under c ++ elements_under old height cs) (l ++ elements_under new height cs)
-          leaf.places.items after.places.items) (sym same)
-          (turned_back (was_under c) (elements_under old height cs) (elements_under new height cs) leaf.places.items after.places.items (later is))
+          by_test : (b : Bool) → is_under old height x c ≡ b → (b || has_under old height cs x) ≡ true
+              → (has_under old height cs x ≡ true
+              → HasTurned (elements_under old height cs) (elements_under new height cs) leaf.places.items after.places.items)
+              → HasTurned (elements_under old height (c ∷ cs)) (elements_under new height (c ∷ cs)) leaf.places.items after.places.items
+          by_test true here is later =
+              let rest = stays_under height right cs (apart_children old height x level right c cs rising stored here) in
+              subst (λ (l : List Element). HasTurned (was_under c ++ elements_under old height cs) (is_now_under c ++ l) leaf.places.items after.places.items)
+              (sym rest) (turned_front (was_under c) (is_now_under c) (elements_under old height cs) leaf.places.items after.places.items
+              (turned_one (child_place level (next_left right cs) c) stored.0 here))
+          by_test false here is later =
+              let alone : has_under old height (c ∷ []) x ≡ false = rw here refl in
+              let same : is_now_under c ≡ was_under c =
+              sym (append-nil (is_now_under c)) ∙ stays_under height right (c ∷ []) alone ∙ append-nil (was_under c) in
+              subst (λ (l : List Element). HasTurned (was_under c ++ elements_under old height cs) (l ++ elements_under new height cs)
+              leaf.places.items after.places.items) (sym same)
+              (turned_back (was_under c) (elements_under old height cs) (elements_under new height cs) leaf.places.items after.places.items (later is))
 
   turned_below : (height : ℕ) (s : Subtree) (node : Node) → IsTree old height s node → Reaches old height node x
       → HasTurned (elements_in old height node) (elements_in new height node) leaf.places.items after.places.items
@@ -333,7 +339,8 @@ module _ (old new : PageMap) (x : ℕ) (leaf after : Leaf) (turns : TurnsLeaf ol
           by_test : (b : Bool) → nat_eq x root ≡ b → (b || reaches old (height_of top) top x) ≡ true
               → HasTurned (elements_of old root) (elements_in new (height_of top) top') leaf.places.items after.places.items
           by_test true same is = turned_at (height_of top) root (sym (eqb-true x root same))
-          by_test false other is = subst (λ (n : Node). HasTurned (elements_of old root) (elements_in new (height_of top) n) leaf.places.items after.places.items)
+          by_test false other is = subst (λ (n : Node). HasTurned (elements_of old root) (elements_in new (height_of top) n) leaf.places.items
+              after.places.items)
               (sym (node_stays root (λ same. test_other x root other (sym same))))
               (turned_below (height_of top) (root_place root) top tree.sound.tree is)
 
